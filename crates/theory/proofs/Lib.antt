@@ -1,0 +1,15 @@
+pub mod Machine
+pub mod Cases
+pub mod Laws
+pub mod Sound
+pub mod Complete
+pub mod Prefix
+pub mod Right
+pub mod Tested
+pub mod Fits
+pub mod Descend
+pub mod Lists
+pub mod Scan
+pub mod Faults
+pub mod Outcomes
+pub mod SmallHolds

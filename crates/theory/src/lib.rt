@@ -1,0 +1,1 @@
+// The theory of grammars as tables is definitions (specs/) and theorems (proofs/); this crate has no code to run.
