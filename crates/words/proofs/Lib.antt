@@ -1,0 +1,9 @@
+pub mod Equal
+pub mod Every
+pub mod LegalCases
+pub mod FewestCases
+pub mod Lookup
+pub mod Spells
+pub mod OrderDoesNotMatter
+pub mod OfAllSequences
+pub mod FewestWords

@@ -1,0 +1,156 @@
+-- Made by `proofkit expand` from Proof.tmpl beside it: edit that file.
+-- `words::word` meets its contract: the comparisons on the way to each `return` are those of `wordOf`, in its order.
+-- Assumes nothing.
+use Rattle.words.specs.Words.{words}
+use Rattle.words.proofs.Lookup.{met, passed, at-the-end, whole}
+use borrow.Author.Needs.{needs}
+use Rattle.words.proofs.word.Statement.{statement}
+use Rattle.words.proofs.word.Tie as tie
+use Rattle.words.proofs.word.Reads as reads
+use Rattle.words.proofs.word.Lts as lts
+use Rattle.words.proofs.same.Reads as same-reads
+
+slice-aggregate-same : tie.Need-slice-aggregate-same
+slice-aggregate-same c = search needs
+
+same-requires : tie.Need-same-requires
+same-requires c κs = search needs
+
+returns : tie.Need-returns
+unfolding words
+returns c =
+    whole (c .before .before .before .before .args .s .now)
+    (met (c .before .same .ensures) (c .if1 .taken))
+
+slice-aggregate-same-2 : tie.Need-slice-aggregate-same-2
+slice-aggregate-same-2 c = search needs
+
+same-requires-2 : tie.Need-same-requires-2
+same-requires-2 c κs = search needs
+
+returns-2 : tie.Need-returns-2
+unfolding words
+returns-2 c =
+    whole (c .before .before .before .before .before .before .before .args .s .now)
+    (passed (c .before .before .before .before .same .ensures) (c .before .before .before .if1 .left)
+    (met (c .before .same2 .ensures) (c .if2 .taken)))
+
+slice-aggregate-same-3 : tie.Need-slice-aggregate-same-3
+slice-aggregate-same-3 c = search needs
+
+same-requires-3 : tie.Need-same-requires-3
+same-requires-3 c κs = search needs
+
+returns-3 : tie.Need-returns-3
+unfolding words
+returns-3 c =
+    whole (c .before .before .before .before .before .before .before .before .before .before .args .s .now)
+    (passed (c .before .before .before .before .before .before .before .same .ensures) (c .before .before .before .before .before .before .if1 .left)
+    (passed (c .before .before .before .before .same2 .ensures) (c .before .before .before .if2 .left)
+    (met (c .before .same3 .ensures) (c .if3 .taken))))
+
+slice-aggregate-same-4 : tie.Need-slice-aggregate-same-4
+slice-aggregate-same-4 c = search needs
+
+same-requires-4 : tie.Need-same-requires-4
+same-requires-4 c κs = search needs
+
+returns-4 : tie.Need-returns-4
+unfolding words
+returns-4 c =
+    whole (c .before .before .before .before .before .before .before .before .before .before .before .before .before .args .s .now)
+    (passed (c .before .before .before .before .before .before .before .before .before .before .same .ensures) (c .before .before .before .before .before .before .before .before .before .if1 .left)
+    (passed (c .before .before .before .before .before .before .before .same2 .ensures) (c .before .before .before .before .before .before .if2 .left)
+    (passed (c .before .before .before .before .same3 .ensures) (c .before .before .before .if3 .left)
+    (met (c .before .same4 .ensures) (c .if4 .taken)))))
+
+slice-aggregate-same-5 : tie.Need-slice-aggregate-same-5
+slice-aggregate-same-5 c = search needs
+
+same-requires-5 : tie.Need-same-requires-5
+same-requires-5 c κs = search needs
+
+returns-5 : tie.Need-returns-5
+unfolding words
+returns-5 c =
+    whole (c .before .before .before .before .before .before .before .before .before .before .before .before .before .before .before .before .args .s .now)
+    (passed (c .before .before .before .before .before .before .before .before .before .before .before .before .before .same .ensures) (c .before .before .before .before .before .before .before .before .before .before .before .before .if1 .left)
+    (passed (c .before .before .before .before .before .before .before .before .before .before .same2 .ensures) (c .before .before .before .before .before .before .before .before .before .if2 .left)
+    (passed (c .before .before .before .before .before .before .before .same3 .ensures) (c .before .before .before .before .before .before .if3 .left)
+    (passed (c .before .before .before .before .same4 .ensures) (c .before .before .before .if4 .left)
+    (met (c .before .same5 .ensures) (c .if5 .taken))))))
+
+slice-aggregate-same-6 : tie.Need-slice-aggregate-same-6
+slice-aggregate-same-6 c = search needs
+
+same-requires-6 : tie.Need-same-requires-6
+same-requires-6 c κs = search needs
+
+returns-6 : tie.Need-returns-6
+unfolding words
+returns-6 c =
+    whole (c .before .before .before .before .before .before .before .before .before .before .before .before .before .before .before .before .before .before .before .args .s .now)
+    (passed (c .before .before .before .before .before .before .before .before .before .before .before .before .before .before .before .before .same .ensures) (c .before .before .before .before .before .before .before .before .before .before .before .before .before .before .before .if1 .left)
+    (passed (c .before .before .before .before .before .before .before .before .before .before .before .before .before .same2 .ensures) (c .before .before .before .before .before .before .before .before .before .before .before .before .if2 .left)
+    (passed (c .before .before .before .before .before .before .before .before .before .before .same3 .ensures) (c .before .before .before .before .before .before .before .before .before .if3 .left)
+    (passed (c .before .before .before .before .before .before .before .same4 .ensures) (c .before .before .before .before .before .before .if4 .left)
+    (passed (c .before .before .before .before .same5 .ensures) (c .before .before .before .if5 .left)
+    (met (c .before .same6 .ensures) (c .if6 .taken)))))))
+
+slice-aggregate-same-7 : tie.Need-slice-aggregate-same-7
+slice-aggregate-same-7 c = search needs
+
+same-requires-7 : tie.Need-same-requires-7
+same-requires-7 c κs = search needs
+
+returns-7 : tie.Need-returns-7
+unfolding words
+returns-7 c =
+    whole (c .before .before .before .before .before .before .before .before .before .before .before .before .before .before .before .before .before .before .before .before .before .before .args .s .now)
+    (passed (c .before .before .before .before .before .before .before .before .before .before .before .before .before .before .before .before .before .before .before .same .ensures) (c .before .before .before .before .before .before .before .before .before .before .before .before .before .before .before .before .before .before .if1 .left)
+    (passed (c .before .before .before .before .before .before .before .before .before .before .before .before .before .before .before .before .same2 .ensures) (c .before .before .before .before .before .before .before .before .before .before .before .before .before .before .before .if2 .left)
+    (passed (c .before .before .before .before .before .before .before .before .before .before .before .before .before .same3 .ensures) (c .before .before .before .before .before .before .before .before .before .before .before .before .if3 .left)
+    (passed (c .before .before .before .before .before .before .before .before .before .before .same4 .ensures) (c .before .before .before .before .before .before .before .before .before .if4 .left)
+    (passed (c .before .before .before .before .before .before .before .same5 .ensures) (c .before .before .before .before .before .before .if5 .left)
+    (passed (c .before .before .before .before .same6 .ensures) (c .before .before .before .if6 .left)
+    (met (c .before .same7 .ensures) (c .if7 .taken))))))))
+
+returns-8 : tie.Need-returns-8
+unfolding words
+returns-8 c =
+    whole (c .before .before .before .before .before .before .before .before .before .before .before .before .before .before .before .before .before .before .before .before .before .before .args .s .now)
+    (passed (c .before .before .before .before .before .before .before .before .before .before .before .before .before .before .before .before .before .before .before .same .ensures) (c .before .before .before .before .before .before .before .before .before .before .before .before .before .before .before .before .before .before .if1 .left)
+    (passed (c .before .before .before .before .before .before .before .before .before .before .before .before .before .before .before .before .same2 .ensures) (c .before .before .before .before .before .before .before .before .before .before .before .before .before .before .before .if2 .left)
+    (passed (c .before .before .before .before .before .before .before .before .before .before .before .before .before .same3 .ensures) (c .before .before .before .before .before .before .before .before .before .before .before .before .if3 .left)
+    (passed (c .before .before .before .before .before .before .before .before .before .before .same4 .ensures) (c .before .before .before .before .before .before .before .before .before .if4 .left)
+    (passed (c .before .before .before .before .before .before .before .same5 .ensures) (c .before .before .before .before .before .before .if5 .left)
+    (passed (c .before .before .before .before .same6 .ensures) (c .before .before .before .if6 .left)
+    (passed (c .before .same7 .ensures) (c .if7 .left)
+    (at-the-end))))))))
+
+pub word-spec : {M : Type 1} → statement M
+word-spec =
+    tie.close
+    (tie.spec
+    slice-aggregate-same
+    same-requires
+    returns
+    slice-aggregate-same-2
+    same-requires-2
+    returns-2
+    slice-aggregate-same-3
+    same-requires-3
+    returns-3
+    slice-aggregate-same-4
+    same-requires-4
+    returns-4
+    slice-aggregate-same-5
+    same-requires-5
+    returns-5
+    slice-aggregate-same-6
+    same-requires-6
+    returns-6
+    slice-aggregate-same-7
+    same-requires-7
+    returns-7
+    returns-8)
