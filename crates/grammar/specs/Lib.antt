@@ -14,3 +14,7 @@ pub mod Reading
 -- Meaning and canonical writing:
 pub mod Meaning
 pub mod Writing
+-- What the two calls promise:
+pub mod Promise
+-- The sample commands:
+pub mod Samples
