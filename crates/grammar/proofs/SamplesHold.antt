@@ -32,10 +32,10 @@ use Rattle.grammar.specs.Nodes.{count, beside, Rec, rec, records, laid}
 use Rattle.grammar.specs.Reading.{side, choose, isEnd, opt, _#_, column, limitAndOffset, group, inside, rules, ruled, valueOf, value, values, reading}
 use Rattle.grammar.specs.Meaning.{plainDetail, isOne, unwrapped, meaning}
 use Rattle.grammar.specs.Writing.{_!_, butFirst, within, at, after, joined, each, parted, rows, grouped, joinWords, joinOf, whens, binaryToks, binaryStr, nodeStr, forms, formed, piece, pieces, writing}
-use Rattle.grammar.specs.Promise.{tokens, Lent, AllFit, recordsOf, Reads, accepted, writingOf, kindsOf, textsOf}
-use Rattle.grammar.specs.Samples.{Sample, w, times, around, samples}
+use Rattle.grammar.specs.Promise.{tokens, Lent, AllFit, Accepted, recordsOf, Reads, accepted, writingOf, put, kindsOf, textsOf, Writes, written}
+use Rattle.grammar.specs.Samples.{Sample, w, v, times, around, samples}
 use Rattle.grammar.proofs.Checked.{sql-laws}
-use Rattle.grammar.proofs.Promised.{choose-true, choose-false, not-true, found, parsed, is-answered}
+use Rattle.grammar.proofs.Promised.{choose-true, choose-false, not-true, found, answered, parsed, is-answered}
 use Rattle.theory.proofs.Outcomes.{some-outcome}
 
 -- ── equality tests, and what they say ──
@@ -117,8 +117,16 @@ pub leftBy : Sample → List ℕ → List ℕ
 leftBy s N = choose (eqb (s .number) 0) (laid N (s .records)) N
 
 -- s is read as the table says, whatever table of that many places is lent
+abbrev pub ReadSo : Sample → Type 0
+ReadSo s = (N : List ℕ) → length N ≡ PLACES → Reads (kindsOf (s .command)) (textsOf (s .command)) N (s .number) (s .place) (leftBy s N)
+
+-- and, if it is accepted, written as the table says, whatever outputs hold the writing
+abbrev pub WrittenSo : Sample → Type 0
+WrittenSo s = s .number ≡ 0 → (N A B : List ℕ) → length N ≡ PLACES → length A ≡ length B → length (s .writing) ≤ length A
+  → Writes (kindsOf (s .command)) (textsOf (s .command)) N A B 0 (length (s .writing)) (laid N (s .records)) (put (kindsOf (s .writing)) A) (put (textsOf (s .writing)) B)
+
 abbrev pub Holds : Sample → Type 0
-Holds s = (N : List ℕ) → length N ≡ PLACES → Reads (kindsOf (s .command)) (textsOf (s .command)) N (s .number) (s .place) (leftBy s N)
+Holds s = ReadSo s × WrittenSo s
 
 some-number : {ts : List Tok} (m p : ℕ) → Outcome Around under judge G outer (any Command) ts (refused m p) → 0 < m
 some-number m p (inl o) = omega (arith, o .0)
@@ -149,21 +157,26 @@ module _ (s : Sample) (ok : good s ≡ true) where
   room = leb-le (WIDTH * length (s .records)) PLACES (both-r (leb (length (s .command)) TOKENS) _ sizes)
 
   by-answer : (a : Ans) → Outcome Around under judge G outer (any Command) (tokens (kindsOf (s .command)) (textsOf (s .command))) a → answers s a ≡ true → Holds s
-  unfolding answers leftBy choose found
-  by-answer (got k n us) o e N h =
+  unfolding answers answered leftBy choose found
+  by-answer (got k n us) o e =
     let i = both-l _ (both (eqAll eqRec (recordsOf (found k)) (s .records)) (eqAll eqTok (writingOf (found k)) (s .writing))) e in
     let z : s .number ≡ 0 = eqb-eq (s .number) 0 (both-l _ (eqb (s .place) (length (s .records))) i) in
     let y : s .place ≡ length (s .records) = eqb-eq (s .place) (length (s .records)) (both-r (eqb (s .number) 0) _ i) in
     let f = both-r (both (eqb (s .number) 0) (eqb (s .place) (length (s .records)))) _ e in
     let r : recordsOf (found k) ≡ s .records = eq-all eqRec eq-rec (recordsOf (found k)) (s .records) (both-l _ (eqAll eqTok (writingOf (found k)) (s .writing)) f) in
+    let v : writingOf (found k) ≡ s .writing = eq-all eqTok eq-tok (writingOf (found k)) (s .writing) (both-r (eqAll eqRec (recordsOf (found k)) (s .records)) _ f) in
     let q : recordsOf (o .0) ≡ s .records = sym (ap (λ y. recordsOf (found y)) (o .1)) ∙ r in
-    accepted (o .0) (record { lent = lent; fit = fit; derived = o .4; within = o .5 }) (rw (q, h) room) z (y ∙ ap length (sym q))
-      (choose-true _ _ _ (eqb-true (s .number) 0 z) ∙ ap (laid N) (sym q))
-  by-answer (refused m p) o e N h =
+    let u : writingOf (o .0) ≡ s .writing = sym (ap (λ y. writingOf (found y)) (o .1)) ∙ v in
+    let a : Accepted (kindsOf (s .command)) (textsOf (s .command)) (o .0) = record { lent = lent; fit = fit; derived = o .4; within = o .5 } in
+    ((λ N h. accepted (o .0) a (rw (q, h) room) z (y ∙ ap length (sym q)) (choose-true _ _ _ (eqb-true (s .number) 0 z) ∙ ap (laid N) (sym q))),
+     (λ w N A B h g l. written (o .0) g a (rw (q, h) room) (rw u l) refl (ap length (sym u)) (ap (laid N) (sym q)) (ap (λ x. put (kindsOf x) A) (sym u)) (ap (λ x. put (textsOf x) B) (sym u))))
+  by-answer (refused m p) o e =
     let y : s .number ≡ m = eqb-eq (s .number) m (both-l _ (eqb (s .place) p) e) in
     let z : s .place ≡ p = eqb-eq (s .place) p (both-r (eqb (s .number) m) _ e) in
-    let k : leftBy s N ≡ N = choose-false _ _ _ (not-true _ (λ w. absurd (let a = eqb-eq (s .number) 0 w in let b : 0 < m = some-number m p o in omega (arith, a, b, y)))) in
-    rw (k, y, z) (is-answered (kindsOf (s .command)) (textsOf (s .command)) N lent fit (refused m p) o)
+    let b : 0 < m = some-number m p o in
+    ((λ N h. let k : leftBy s N ≡ N = choose-false _ _ _ (not-true _ (λ w. absurd (let a = eqb-eq (s .number) 0 w in omega (arith, a, b, y)))) in
+      rw (k, y, z) (is-answered (kindsOf (s .command)) (textsOf (s .command)) N lent fit (refused m p) o)),
+     (λ w. absurd (omega (arith, w, b, y))))
 
 sample-holds : (s : Sample) → good s ≡ true → Holds s
 sample-holds s ok = by-answer s ok (parsed (tokens (kindsOf (s .command)) (textsOf (s .command))))
