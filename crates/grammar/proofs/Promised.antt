@@ -95,8 +95,8 @@ scanned : (n : ℕ) (ts : List Tok) → Scanned n ts (firstUnfit n ts)
 unfolding firstUnfit choose
 scanned n [] = tt
 scanned n (t ∷ ts) = by-bool (fits (t .kind) (t .text))
-  (λ e. rw e (scanned-more n t ts e (firstUnfit (n + 1) ts) (scanned (n + 1) ts)))
-  (λ e. rw e ([], t, ts, refl, omega arith, tt, false-not (fits (t .kind) (t .text)) e))
+    (λ e. rw e (scanned-more n t ts e (firstUnfit (n + 1) ts) (scanned (n + 1) ts)))
+    (λ e. rw e ([], t, ts, refl, omega arith, tt, false-not (fits (t .kind) (t .text)) e))
 
 -- the command's tree, from what the machine found
 unfoldable pub found : Tree → Tree
@@ -131,7 +131,7 @@ module _ (K T N : List ℕ) where
 
   parsed-got : (x : Tree) → Accepted K T x → parsed (tokens K T) ≡ got (add nil x) (length (tokens K T)) []
   parsed-got x a = outcome Around under judge G outer (any Command) (FollowOf sql) sql-laws (tokens K T) (got (add nil x) (length (tokens K T)) []) .1
-    (x, refl, refl, refl, a .derived, a .within)
+      (x, refl, refl, refl, a .derived, a .within)
 
   parsed-refused : (m p : ℕ) → Outcome Around under judge G outer (any Command) (tokens K T) (refused m p) → parsed (tokens K T) ≡ refused m p
   parsed-refused m p o = outcome Around under judge G outer (any Command) (FollowOf sql) sql-laws (tokens K T) (refused m p) .1 o
@@ -179,8 +179,8 @@ module _ (K T N : List ℕ) where
   pub is-answered : Lent K T → AllFit (tokens K T) → (a : Ans) → Outcome Around under judge G outer (any Command) (tokens K T) a → Is (answered N a)
   unfolding answered found
   is-answered l f (got k n us) o = rw (o .1) (by-bool (roomB N (o .0))
-    (λ e. subst Is (sym (choose-true _ _ _ e)) (accepted (o .0) (record { lent = l; fit = f; derived = o .4; within = o .5 }) (true-room (o .0) e) refl refl refl))
-    (λ e. subst Is (sym (choose-false _ _ _ e)) (refusal-9 (o .0) (record { lent = l; fit = f; derived = o .4; within = o .5 }) (λ r. false-not (roomB N (o .0)) e (room-true (o .0) r)) refl refl refl)))
+      (λ e. subst Is (sym (choose-true _ _ _ e)) (accepted (o .0) (record { lent = l; fit = f; derived = o .4; within = o .5 }) (true-room (o .0) e) refl refl refl))
+      (λ e. subst Is (sym (choose-false _ _ _ e)) (refusal-9 (o .0) (record { lent = l; fit = f; derived = o .4; within = o .5 }) (λ r. false-not (roomB N (o .0)) e (room-true (o .0) r)) refl refl refl)))
   is-answered l f (refused m p) (inl o) = refusal-3 l f (o .1) (o .0) refl
   is-answered l f (refused m p) (inr (inl o)) = refusal-4 l f (o .1) (o .0) refl
   is-answered l f (refused m p) (inr (inr o)) = refusal-5-to-8 l f o refl
@@ -193,8 +193,8 @@ module _ (K T N : List ℕ) where
   pub some-reading : Reads K T N (readOf K T N .number) (readOf K T N .place) (readOf K T N .table)
   unfolding readOf
   some-reading = by-bool (lentB K T)
-    (λ e. subst Is (sym (choose-true _ _ _ e)) (is-fit (true-lent K T e) (firstUnfit 0 (tokens K T)) (scanned 0 (tokens K T))))
-    (λ e. subst Is (sym (choose-false _ _ _ e)) (refusal-1 (λ l. false-not (lentB K T) e (lent-true K T l)) refl refl refl))
+      (λ e. subst Is (sym (choose-true _ _ _ e)) (is-fit (true-lent K T e) (firstUnfit 0 (tokens K T)) (scanned 0 (tokens K T))))
+      (λ e. subst Is (sym (choose-false _ _ _ e)) (refusal-1 (λ l. false-not (lentB K T) e (lent-true K T l)) refl refl refl))
 
 -- ── the writer's promise as a function ──
 pub record LeftW : Type 0 where
@@ -211,8 +211,8 @@ module _ (K T N A B : List ℕ) where
   -- after a reading that was accepted with the tree x
   unfoldable pub wroteTree : Tree → LeftW
   wroteTree x = choose (leb (length (writingOf x)) (length A))
-    (leftW 0 (length (writingOf x)) (laid N (recordsOf x)) (put (kindsOf (writingOf x)) A) (put (textsOf (writingOf x)) B))
-    (leftW 10 (length (writingOf x)) (laid N (recordsOf x)) A B)
+      (leftW 0 (length (writingOf x)) (laid N (recordsOf x)) (put (kindsOf (writingOf x)) A) (put (textsOf (writingOf x)) B))
+      (leftW 10 (length (writingOf x)) (laid N (recordsOf x)) A B)
 
   unfoldable pub wroteAns : Left → Ans → LeftW
   wroteAns l (got k n us) = choose (eqb (l .number) 0) (wroteTree (found k)) (leftW (l .number) (l .place) (l .table) A B)
@@ -254,10 +254,10 @@ module _ (K T N A B : List ℕ) where
   toldW (refusal-10 x e a r h i j k l o) = write-tree x e a r ∙ choose-false _ _ _ (not-true _ (λ z. absurd (omega (arith, h, leb-le (length (writingOf x)) (length A) z)))) ∙ same-leftW (sym i) (sym j) (sym k) (sym l) (sym o)
 
   pub one-writing : {m n p q : ℕ} {N' M A' C B' D : List ℕ} → Writes K T N A B m p N' A' B' → Writes K T N A B n q M C D
-    → (m ≡ n) × (p ≡ q) × (N' ≡ M) × (A' ≡ C) × (B' ≡ D)
+      → (m ≡ n) × (p ≡ q) × (N' ≡ M) × (A' ≡ C) × (B' ≡ D)
   one-writing {m} {n} {p} {q} {N'} {M} {A'} {C} {B'} {D} a b =
-    let e : leftW m p N' A' B' ≡ leftW n q M C D = sym (toldW a) ∙ toldW b in
-    (ap (λ z. z .number) e, ap (λ z. z .place) e, ap (λ z. z .table) e, ap (λ z. z .kinds) e, ap (λ z. z .texts) e)
+      let e : leftW m p N' A' B' ≡ leftW n q M C D = sym (toldW a) ∙ toldW b in
+      (ap (λ z. z .number) e, ap (λ z. z .place) e, ap (λ z. z .table) e, ap (λ z. z .kinds) e, ap (λ z. z .texts) e)
 
   abbrev IsW : LeftW → Type 0
   IsW a = Writes K T N A B (a .number) (a .place) (a .table) (a .kinds) (a .texts)
@@ -265,8 +265,8 @@ module _ (K T N A B : List ℕ) where
   is-tree : (x : Tree) → length A ≡ length B → Accepted K T x → Room N x → IsW (wroteTree x)
   unfolding wroteTree
   is-tree x e a r = by-bool (leb (length (writingOf x)) (length A))
-    (λ h. subst IsW (sym (choose-true _ _ _ h)) (written x e a r (leb-le _ _ h) refl refl refl refl refl))
-    (λ h. subst IsW (sym (choose-false _ _ _ h)) (refusal-10 x e a r (leb-false (length (writingOf x)) (length A) h) refl refl refl refl refl))
+      (λ h. subst IsW (sym (choose-true _ _ _ h)) (written x e a r (leb-le _ _ h) refl refl refl refl refl))
+      (λ h. subst IsW (sym (choose-false _ _ _ h)) (refusal-10 x e a r (leb-false (length (writingOf x)) (length A) h) refl refl refl refl refl))
 
   is-wrote : {m p : ℕ} {N' : List ℕ} → length A ≡ length B → Lent K T → Reads K T N m p N' → IsW writeOf
   is-wrote e l (accepted x a r i j k) = subst IsW (sym (write-tree x e a r)) (is-tree x e a r)
@@ -279,6 +279,6 @@ module _ (K T N A B : List ℕ) where
 
   pub some-writing : Writes K T N A B (writeOf .number) (writeOf .place) (writeOf .table) (writeOf .kinds) (writeOf .texts)
   some-writing = by-bool (both (lentB K T) (eqb (length A) (length B)))
-    (λ h. is-wrote (eqb-eq (length A) (length B) (both-r (lentB K T) _ h)) (true-lent K T (both-l _ (eqb (length A) (length B)) h)) (some-reading K T N))
-    (λ h. let n : ¬ (Lent K T × (length A ≡ length B)) = λ w. false-not _ h (both-i _ _ (lent-true K T (w .0)) (eqb-true (length A) (length B) (w .1))) in
+      (λ h. is-wrote (eqb-eq (length A) (length B) (both-r (lentB K T) _ h)) (true-lent K T (both-l _ (eqb (length A) (length B)) h)) (some-reading K T N))
+      (λ h. let n : ¬ (Lent K T × (length A ≡ length B)) = λ w. false-not _ h (both-i _ _ (lent-true K T (w .0)) (eqb-true (length A) (length B) (w .1))) in
       subst IsW (sym (write-1 n)) (refusal-1w n refl refl refl refl refl))

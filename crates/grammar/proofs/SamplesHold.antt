@@ -54,10 +54,10 @@ eqAll eq (x ∷ xs) (y ∷ ys) = both (eq x y) (eqAll eq xs ys)
 eq-rec : (r s : Rec) → eqRec r s ≡ true → r ≡ s
 unfolding eqRec
 eq-rec (rec a b c d) (rec e f g h) z =
-  let p = both-l (eqb a e) _ z in let q = both-r (eqb a e) _ z in
-  let r = both-l (eqb b f) _ q in let s = both-r (eqb b f) _ q in
-  let t = both-l (eqb c g) _ s in let u = both-r (eqb c g) _ s in
-  rw (eqb-eq a e p, eqb-eq b f r, eqb-eq c g t, eqb-eq d h u)
+    let p = both-l (eqb a e) _ z in let q = both-r (eqb a e) _ z in
+    let r = both-l (eqb b f) _ q in let s = both-r (eqb b f) _ q in
+    let t = both-l (eqb c g) _ s in let u = both-r (eqb c g) _ s in
+    rw (eqb-eq a e p, eqb-eq b f r, eqb-eq c g t, eqb-eq d h u)
 
 eq-tok : (t u : Tok) → eqTok t u ≡ true → t ≡ u
 unfolding eqTok
@@ -123,7 +123,7 @@ ReadSo s = (N : List ℕ) → length N ≡ PLACES → Reads (kindsOf (s .command
 -- and, if it is accepted, written as the table says, whatever outputs hold the writing
 abbrev pub WrittenSo : Sample → Type 0
 WrittenSo s = s .number ≡ 0 → (N A B : List ℕ) → length N ≡ PLACES → length A ≡ length B → length (s .writing) ≤ length A
-  → Writes (kindsOf (s .command)) (textsOf (s .command)) N A B 0 (length (s .writing)) (laid N (s .records)) (put (kindsOf (s .writing)) A) (put (textsOf (s .writing)) B)
+    → Writes (kindsOf (s .command)) (textsOf (s .command)) N A B 0 (length (s .writing)) (laid N (s .records)) (put (kindsOf (s .writing)) A) (put (textsOf (s .writing)) B)
 
 abbrev pub Holds : Sample → Type 0
 Holds s = ReadSo s × WrittenSo s
@@ -143,9 +143,10 @@ module _ (s : Sample) (ok : good s ≡ true) where
   others = both-r (both (leb (length (s .command)) TOKENS) (leb (WIDTH * length (s .records)) PLACES)) _ ok
 
   lent : Lent (kindsOf (s .command)) (textsOf (s .command))
-  lent = record
-    { equal = length-kinds (s .command) ∙ sym (length-texts (s .command))
-    ; short = rw (length-kinds (s .command)) (leb-le (length (s .command)) TOKENS (both-l _ (leb (WIDTH * length (s .records)) PLACES) sizes)) }
+  lent = record {
+    equal = length-kinds (s .command) ∙ sym (length-texts (s .command));
+    short = rw (length-kinds (s .command)) (leb-le (length (s .command)) TOKENS (both-l _ (leb (WIDTH * length (s .records)) PLACES) sizes));
+  }
 
   fit : AllFit (tokens (kindsOf (s .command)) (textsOf (s .command)))
   fit = rw (tokens-back (s .command)) (all-fitting (s .command) (both-l _ (answers s (parsed (s .command))) others))
@@ -159,28 +160,30 @@ module _ (s : Sample) (ok : good s ≡ true) where
   by-answer : (a : Ans) → Outcome Around under judge G outer (any Command) (tokens (kindsOf (s .command)) (textsOf (s .command))) a → answers s a ≡ true → Holds s
   unfolding answers answered leftBy choose found
   by-answer (got k n us) o e =
-    let i = both-l _ (both (eqAll eqRec (recordsOf (found k)) (s .records)) (eqAll eqTok (writingOf (found k)) (s .writing))) e in
-    let z : s .number ≡ 0 = eqb-eq (s .number) 0 (both-l _ (eqb (s .place) (length (s .records))) i) in
-    let y : s .place ≡ length (s .records) = eqb-eq (s .place) (length (s .records)) (both-r (eqb (s .number) 0) _ i) in
-    let f = both-r (both (eqb (s .number) 0) (eqb (s .place) (length (s .records)))) _ e in
-    let r : recordsOf (found k) ≡ s .records = eq-all eqRec eq-rec (recordsOf (found k)) (s .records) (both-l _ (eqAll eqTok (writingOf (found k)) (s .writing)) f) in
-    let v : writingOf (found k) ≡ s .writing = eq-all eqTok eq-tok (writingOf (found k)) (s .writing) (both-r (eqAll eqRec (recordsOf (found k)) (s .records)) _ f) in
-    let q : recordsOf (o .0) ≡ s .records = sym (ap (λ y. recordsOf (found y)) (o .1)) ∙ r in
-    let u : writingOf (o .0) ≡ s .writing = sym (ap (λ y. writingOf (found y)) (o .1)) ∙ v in
-    let a : Accepted (kindsOf (s .command)) (textsOf (s .command)) (o .0) = record { lent = lent; fit = fit; derived = o .4; within = o .5 } in
-    ((λ N h. accepted (o .0) a (rw (q, h) room) z (y ∙ ap length (sym q)) (choose-true _ _ _ (eqb-true (s .number) 0 z) ∙ ap (laid N) (sym q))),
-     (λ w N A B h g l. written (o .0) g a (rw (q, h) room) (rw u l) refl (ap length (sym u)) (ap (laid N) (sym q)) (ap (λ x. put (kindsOf x) A) (sym u)) (ap (λ x. put (textsOf x) B) (sym u))))
+      let i = both-l _ (both (eqAll eqRec (recordsOf (found k)) (s .records)) (eqAll eqTok (writingOf (found k)) (s .writing))) e in
+      let z : s .number ≡ 0 = eqb-eq (s .number) 0 (both-l _ (eqb (s .place) (length (s .records))) i) in
+      let y : s .place ≡ length (s .records) = eqb-eq (s .place) (length (s .records)) (both-r (eqb (s .number) 0) _ i) in
+      let f = both-r (both (eqb (s .number) 0) (eqb (s .place) (length (s .records)))) _ e in
+      let r : recordsOf (found k) ≡ s .records = eq-all eqRec eq-rec (recordsOf (found k)) (s .records) (both-l _ (eqAll eqTok (writingOf (found k)) (s .writing)) f) in
+      let v : writingOf (found k) ≡ s .writing = eq-all eqTok eq-tok (writingOf (found k)) (s .writing) (both-r (eqAll eqRec (recordsOf (found k)) (s .records)) _ f) in
+      let q : recordsOf (o .0) ≡ s .records = sym (ap (λ y. recordsOf (found y)) (o .1)) ∙ r in
+      let u : writingOf (o .0) ≡ s .writing = sym (ap (λ y. writingOf (found y)) (o .1)) ∙ v in
+      let a : Accepted (kindsOf (s .command)) (textsOf (s .command)) (o .0) = record { lent = lent; fit = fit; derived = o .4; within = o .5 } in (
+        (λ N h. accepted (o .0) a (rw (q, h) room) z (y ∙ ap length (sym q)) (choose-true _ _ _ (eqb-true (s .number) 0 z) ∙ ap (laid N) (sym q))),
+        (λ w N A B h g l. written (o .0) g a (rw (q, h) room) (rw u l) refl (ap length (sym u)) (ap (laid N) (sym q)) (ap (λ x. put (kindsOf x) A) (sym u)) (ap (λ x. put (textsOf x) B) (sym u))),
+      )
   by-answer (refused m p) o e =
-    let y : s .number ≡ m = eqb-eq (s .number) m (both-l _ (eqb (s .place) p) e) in
-    let z : s .place ≡ p = eqb-eq (s .place) p (both-r (eqb (s .number) m) _ e) in
-    let b : 0 < m = some-number m p o in
-    ((λ N h. let k : leftBy s N ≡ N = choose-false _ _ _ (not-true _ (λ w. absurd (let a = eqb-eq (s .number) 0 w in omega (arith, a, b, y)))) in
-      rw (k, y, z) (is-answered (kindsOf (s .command)) (textsOf (s .command)) N lent fit (refused m p) o)),
-     (λ w. absurd (omega (arith, w, b, y))))
+      let y : s .number ≡ m = eqb-eq (s .number) m (both-l _ (eqb (s .place) p) e) in
+      let z : s .place ≡ p = eqb-eq (s .place) p (both-r (eqb (s .number) m) _ e) in
+      let b : 0 < m = some-number m p o in (
+        (λ N h. let k : leftBy s N ≡ N = choose-false _ _ _ (not-true _ (λ w. absurd (let a = eqb-eq (s .number) 0 w in omega (arith, a, b, y)))) in
+            rw (k, y, z) (is-answered (kindsOf (s .command)) (textsOf (s .command)) N lent fit (refused m p) o)),
+        (λ w. absurd (omega (arith, w, b, y))),
+      )
 
 sample-holds : (s : Sample) → good s ≡ true → Holds s
 sample-holds s ok = by-answer s ok (parsed (tokens (kindsOf (s .command)) (textsOf (s .command))))
-  (some-outcome Around under judge G outer (any Command) (FollowOf sql) sql-laws (tokens (kindsOf (s .command)) (textsOf (s .command)))) (told-so s ok)
+    (some-outcome Around under judge G outer (any Command) (FollowOf sql) sql-laws (tokens (kindsOf (s .command)) (textsOf (s .command)))) (told-so s ok)
 
 abbrev pub Every : (Sample → Type 0) → List Sample → Type 0
 Every P [] = Unit {0}

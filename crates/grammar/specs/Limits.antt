@@ -89,7 +89,7 @@ isKind k (node r l t f) = false
 unfoldable pub judge : Around → Row → Tree → Tok → Tree → ℕ
 judge c r l t nil = begun c r l
 judge c r l t (add k x) = pick (both (eqb (r .code) row-word-join) (isKind JOIN x)) (pick (legal (united (flagsOf (t .text)) (furtherFlags k))) 0 (λ w. 7))
-  (λ w. pick (both (eqb (r .code) row-next-row) (isKind RP x)) (pick (eqb (width (add k x)) (widthOf l)) 0 (λ w. 8)) (λ w. 0))
+    (λ w. pick (both (eqb (r .code) row-next-row) (isKind RP x)) (pick (eqb (width (add k x)) (widthOf l)) 0 (λ w. 8)) (λ w. 0))
 judge c r l t (leaf u) = 0
 judge c r l t (node q m u f) = 0
 

@@ -79,7 +79,7 @@ module _ (K T N : List ℕ) where
   pub data Reads : ℕ → ℕ → List ℕ → Type 0 where
     -- "Acceptance is number 0; its place is the count of records": and the table holds that derivation's reading
     accepted : {m p : ℕ} {N' : List ℕ} (x : Tree) → Accepted K T x → Room N x
-      → m ≡ 0 → p ≡ length (recordsOf x) → N' ≡ laid N (recordsOf x) → Reads m p N'
+        → m ≡ 0 → p ≡ length (recordsOf x) → N' ≡ laid N (recordsOf x) → Reads m p N'
     -- "1 | list lengths differ .., or input over 4,096 | 0"
     refusal-1 : {m p : ℕ} {N' : List ℕ} → ¬ Lent K T → m ≡ 1 → p ≡ 0 → N' ≡ N → Reads m p N'
     -- "2 | kind 0 or over 71, or unfit text number of JOIN_KW, LIKE_KW | lowest such token"
@@ -109,11 +109,11 @@ module _ (K T N A B : List ℕ) where
   pub data Writes : ℕ → ℕ → List ℕ → List ℕ → List ℕ → Type 0 where
     -- "Acceptance is number 0; its place is .. from the writer the count of tokens"; "The writer's call first reads its input into the node table."
     written : {m p : ℕ} {N' A' B' : List ℕ} (x : Tree) → length A ≡ length B → Accepted K T x → Room N x → length (writingOf x) ≤ length A
-      → m ≡ 0 → p ≡ length (writingOf x) → N' ≡ laid N (recordsOf x) → A' ≡ put (kindsOf (writingOf x)) A → B' ≡ put (textsOf (writingOf x)) B → Writes m p N' A' B'
+        → m ≡ 0 → p ≡ length (writingOf x) → N' ≡ laid N (recordsOf x) → A' ≡ put (kindsOf (writingOf x)) A → B' ≡ put (textsOf (writingOf x)) B → Writes m p N' A' B'
     -- "1 | list lengths differ (input, or the writer's output), or input over 4,096 | 0"
     refusal-1w : {m p : ℕ} {N' A' B' : List ℕ} → ¬ (Lent K T × (length A ≡ length B)) → m ≡ 1 → p ≡ 0 → N' ≡ N → A' ≡ A → B' ≡ B → Writes m p N' A' B'
     -- the reader's refusals 2 to 9; "All refusals leave every lent list as found"
     refusal-2-to-9 : {m p : ℕ} {N' A' B' : List ℕ} → length A ≡ length B → Lent K T → Reads K T N m p N' → 0 < m → A' ≡ A → B' ≡ B → Writes m p N' A' B'
     -- "10 | writer's output short | tokens needed"; "10 leaves the reading in the node table"
     refusal-10 : {m p : ℕ} {N' A' B' : List ℕ} (x : Tree) → length A ≡ length B → Accepted K T x → Room N x → length A < length (writingOf x)
-      → m ≡ 10 → p ≡ length (writingOf x) → N' ≡ laid N (recordsOf x) → A' ≡ A → B' ≡ B → Writes m p N' A' B'
+        → m ≡ 10 → p ≡ length (writingOf x) → N' ≡ laid N (recordsOf x) → A' ≡ A → B' ≡ B → Writes m p N' A' B'

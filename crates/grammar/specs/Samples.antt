@@ -60,41 +60,41 @@ samples =
     -- K1: SELECT STAR; "SELECT STAR gives 11 records: (5,0,0,1) (4,0,1,2) four (0,0,0,1) (2,0,5,7) three (0,0,0,1) (1,0,4,11)"
     acceptedAs (w SELECT ∷ w STAR ∷ []) (rec 5 0 0 1 ∷ rec 4 0 1 2 ∷ absent ∷ absent ∷ absent ∷ absent ∷ rec 2 0 5 7 ∷ absent ∷ absent ∷ absent ∷ rec 1 0 4 11 ∷ []) (w SELECT ∷ w STAR ∷ [])
     -- K2: nothing; SEMI alone
-  ∷ refusedAt [] 4 0
-  ∷ refusedAt (w SEMI ∷ []) 3 0
+    ∷ refusedAt [] 4 0
+    ∷ refusedAt (w SEMI ∷ []) 3 0
     -- K3: SELECT a FROM t OUTER JOIN u
-  ∷ refusedAt (joinBy (v JOIN-KW OUTER ∷ [])) 7 5
+    ∷ refusedAt (joinBy (v JOIN-KW OUTER ∷ [])) 7 5
     -- K4: K3 with LEFT for OUTER: detail 104
-  ∷ acceptedAs (joinBy (v JOIN-KW LEFT ∷ []))
-      (rec 20 1 0 1 ∷ rec 31 0 1 2 ∷ absent ∷ rec 7 0 2 4 ∷ rec 4 0 1 5 ∷ (tableOf 2 ++ (tableOf 3 ++ (absent ∷ rec 9 104 2 7 ∷ rec 8 0 2 13
-        ∷ absent ∷ absent ∷ absent ∷ rec 2 0 5 22 ∷ absent ∷ absent ∷ absent ∷ rec 1 0 4 26 ∷ []))))
-      (joinBy (v JOIN-KW LEFT ∷ []))
+    ∷ acceptedAs (joinBy (v JOIN-KW LEFT ∷ []))
+    (rec 20 1 0 1 ∷ rec 31 0 1 2 ∷ absent ∷ rec 7 0 2 4 ∷ rec 4 0 1 5 ∷ (tableOf 2 ++ (tableOf 3 ++ (absent ∷ rec 9 104 2 7 ∷ rec 8 0 2 13
+    ∷ absent ∷ absent ∷ absent ∷ rec 2 0 5 22 ∷ absent ∷ absent ∷ absent ∷ rec 1 0 4 26 ∷ []))))
+    (joinBy (v JOIN-KW LEFT ∷ []))
     -- K5: K3 with LEFT INNER for OUTER
-  ∷ refusedAt (joinBy (v JOIN-KW LEFT ∷ v JOIN-KW INNER ∷ [])) 7 6
+    ∷ refusedAt (joinBy (v JOIN-KW LEFT ∷ v JOIN-KW INNER ∷ [])) 7 6
     -- K6: SELECT 1 LIMIT 2 , 3: limit 3, offset 2
-  ∷ acceptedAs (w SELECT ∷ v INTEGER 1 ∷ w LIMIT ∷ v INTEGER 2 ∷ w COMMA ∷ v INTEGER 3 ∷ [])
-      (rec 24 1 0 1 ∷ absent ∷ rec 7 0 2 3 ∷ rec 4 0 1 4 ∷ absent ∷ absent ∷ absent ∷ absent ∷ rec 2 0 5 9 ∷ absent ∷ rec 24 3 0 1 ∷ rec 24 2 0 1 ∷ rec 1 0 4 13 ∷ [])
-      (w SELECT ∷ v INTEGER 1 ∷ w LIMIT ∷ v INTEGER 3 ∷ w OFFSET ∷ v INTEGER 2 ∷ [])
+    ∷ acceptedAs (w SELECT ∷ v INTEGER 1 ∷ w LIMIT ∷ v INTEGER 2 ∷ w COMMA ∷ v INTEGER 3 ∷ [])
+    (rec 24 1 0 1 ∷ absent ∷ rec 7 0 2 3 ∷ rec 4 0 1 4 ∷ absent ∷ absent ∷ absent ∷ absent ∷ rec 2 0 5 9 ∷ absent ∷ rec 24 3 0 1 ∷ rec 24 2 0 1 ∷ rec 1 0 4 13 ∷ [])
+    (w SELECT ∷ v INTEGER 1 ∷ w LIMIT ∷ v INTEGER 3 ∷ w OFFSET ∷ v INTEGER 2 ∷ [])
     -- K7: VALUES (1),(2,3)
-  ∷ refusedAt (w VALUES ∷ w LP ∷ v INTEGER 1 ∷ w RP ∷ w COMMA ∷ w LP ∷ v INTEGER 2 ∷ w COMMA ∷ v INTEGER 3 ∷ w RP ∷ []) 8 9
+    ∷ refusedAt (w VALUES ∷ w LP ∷ v INTEGER 1 ∷ w RP ∷ w COMMA ∷ w LP ∷ v INTEGER 2 ∷ w COMMA ∷ v INTEGER 3 ∷ w RP ∷ []) 8 9
     -- K8: SELECT 1 HAVING 2: group list (4,0,0,1)
-  ∷ acceptedAs (w SELECT ∷ v INTEGER 1 ∷ w HAVING ∷ v INTEGER 2 ∷ [])
-      (rec 24 1 0 1 ∷ absent ∷ rec 7 0 2 3 ∷ rec 4 0 1 4 ∷ absent ∷ absent ∷ rec 4 0 0 1 ∷ rec 24 2 0 1 ∷ rec 2 0 5 9 ∷ absent ∷ absent ∷ absent ∷ rec 1 0 4 13 ∷ [])
-      (w SELECT ∷ v INTEGER 1 ∷ w HAVING ∷ v INTEGER 2 ∷ [])
+    ∷ acceptedAs (w SELECT ∷ v INTEGER 1 ∷ w HAVING ∷ v INTEGER 2 ∷ [])
+    (rec 24 1 0 1 ∷ absent ∷ rec 7 0 2 3 ∷ rec 4 0 1 4 ∷ absent ∷ absent ∷ rec 4 0 0 1 ∷ rec 24 2 0 1 ∷ rec 2 0 5 9 ∷ absent ∷ absent ∷ absent ∷ rec 1 0 4 13 ∷ [])
+    (w SELECT ∷ v INTEGER 1 ∷ w HAVING ∷ v INTEGER 2 ∷ [])
     -- K9: SELECT a IN (); SELECT a IN (1,)
-  ∷ acceptedAs (w SELECT ∷ v ID 1 ∷ w IN ∷ w LP ∷ w RP ∷ []) (rec 20 1 0 1 ∷ rec 31 0 1 2 ∷ rec 4 0 0 1 ∷ rec 41 0 2 4 ∷ absent ∷ rec 7 0 2 6 ∷ rec 4 0 1 7 ∷ plain 7)
-      (w SELECT ∷ v ID 1 ∷ w IN ∷ w LP ∷ w RP ∷ [])
-  ∷ refusedAt (w SELECT ∷ v ID 1 ∷ w IN ∷ w LP ∷ v INTEGER 1 ∷ w COMMA ∷ w RP ∷ []) 3 6
+    ∷ acceptedAs (w SELECT ∷ v ID 1 ∷ w IN ∷ w LP ∷ w RP ∷ []) (rec 20 1 0 1 ∷ rec 31 0 1 2 ∷ rec 4 0 0 1 ∷ rec 41 0 2 4 ∷ absent ∷ rec 7 0 2 6 ∷ rec 4 0 1 7 ∷ plain 7)
+    (w SELECT ∷ v ID 1 ∷ w IN ∷ w LP ∷ w RP ∷ [])
+    ∷ refusedAt (w SELECT ∷ v ID 1 ∷ w IN ∷ w LP ∷ v INTEGER 1 ∷ w COMMA ∷ w RP ∷ []) 3 6
     -- K10: SELECT, then 1 in 63 pairs of parentheses; in 64
-  ∷ acceptedAs (parens 63) (rec 24 1 0 1 ∷ (around 63 1 ++ (absent ∷ rec 7 0 2 66 ∷ rec 4 0 1 67 ∷ plain 67))) (w SELECT ∷ v INTEGER 1 ∷ [])
-  ∷ refusedAt (parens 64) 5 65
+    ∷ acceptedAs (parens 63) (rec 24 1 0 1 ∷ (around 63 1 ++ (absent ∷ rec 7 0 2 66 ∷ rec 4 0 1 67 ∷ plain 67))) (w SELECT ∷ v INTEGER 1 ∷ [])
+    ∷ refusedAt (parens 64) 5 65
     -- K11: 17 SELECTs, each in the last's column
-  ∷ refusedAt (times 16 (w SELECT ∷ w LP ∷ []) (w SELECT ∷ v INTEGER 1 ∷ times 16 (w RP ∷ []) [])) 6 32
+    ∷ refusedAt (times 16 (w SELECT ∷ w LP ∷ []) (w SELECT ∷ v INTEGER 1 ∷ times 16 (w RP ∷ []) [])) 6 32
     -- K12: SELECT a = NOT b
-  ∷ refusedAt (w SELECT ∷ v ID 1 ∷ w EQ ∷ w NOT ∷ v ID 2 ∷ []) 3 3
+    ∷ refusedAt (w SELECT ∷ v ID 1 ∷ w EQ ∷ w NOT ∷ v ID 2 ∷ []) 3 3
     -- K13: SELECT ALL (a)+(b*c) x: written SELECT a + b * c AS x
-  ∷ acceptedAs (w SELECT ∷ w ALL ∷ w LP ∷ v ID 1 ∷ w RP ∷ w PLUS ∷ w LP ∷ v ID 2 ∷ w STAR ∷ v ID 3 ∷ w RP ∷ v ID 4 ∷ [])
-      (rec 20 1 0 1 ∷ rec 31 0 1 2 ∷ rec 33 0 1 3 ∷ rec 20 2 0 1 ∷ rec 31 0 1 2 ∷ rec 20 3 0 1 ∷ rec 31 0 1 2 ∷ rec 39 17 2 5 ∷ rec 33 0 1 6 ∷ rec 39 18 2 10 ∷ rec 20 4 0 1 ∷ rec 7 2 2 12 ∷ rec 4 0 1 13
-        ∷ absent ∷ absent ∷ absent ∷ absent ∷ rec 2 2 5 18 ∷ absent ∷ absent ∷ absent ∷ rec 1 0 4 22 ∷ [])
-      (w SELECT ∷ v ID 1 ∷ w PLUS ∷ v ID 2 ∷ w STAR ∷ v ID 3 ∷ w AS ∷ v ID 4 ∷ [])
-  ∷ []
+    ∷ acceptedAs (w SELECT ∷ w ALL ∷ w LP ∷ v ID 1 ∷ w RP ∷ w PLUS ∷ w LP ∷ v ID 2 ∷ w STAR ∷ v ID 3 ∷ w RP ∷ v ID 4 ∷ [])
+    (rec 20 1 0 1 ∷ rec 31 0 1 2 ∷ rec 33 0 1 3 ∷ rec 20 2 0 1 ∷ rec 31 0 1 2 ∷ rec 20 3 0 1 ∷ rec 31 0 1 2 ∷ rec 39 17 2 5 ∷ rec 33 0 1 6 ∷ rec 39 18 2 10 ∷ rec 20 4 0 1 ∷ rec 7 2 2 12 ∷ rec 4 0 1 13
+    ∷ absent ∷ absent ∷ absent ∷ absent ∷ rec 2 2 5 18 ∷ absent ∷ absent ∷ absent ∷ rec 1 0 4 22 ∷ [])
+    (w SELECT ∷ v ID 1 ∷ w PLUS ∷ v ID 2 ∷ w STAR ∷ v ID 3 ∷ w AS ∷ v ID 4 ∷ [])
+    ∷ []

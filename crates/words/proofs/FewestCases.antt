@@ -5,7 +5,7 @@ use mathlib.Core.Bool.{true, false, true≢false}
 use Prim.Native.Nat.{ℕ, _-_, _≤_, _<_}
 use native.Mathlib.Omega.{arith}
 use native.Mathlib.Decide.{decLe}
-use lib.Bits.{bitAnd, and-comm, and-shifted}
+use lib.Bits.{and-comm, and-shifted}
 use borrow.Author.Tests.{eq-eqb, ne-eqb}
 use Rattle.words.specs.Words.{NATURAL, NO-WORD}
 use Rattle.words.specs.Flags.{NATURAL-BIT, NO-FLAGS, has}

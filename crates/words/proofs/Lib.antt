@@ -1,9 +1,11 @@
-pub mod Equal
 pub mod Every
+pub mod Equal
+pub mod Compared
 pub mod LegalCases
 pub mod FewestCases
 pub mod Lookup
 pub mod Spells
 pub mod OrderDoesNotMatter
 pub mod OfAllSequences
+pub mod NoneLeftOut
 pub mod FewestWords

@@ -1,14 +1,14 @@
 -- Bytes have a word's number exactly when, upper-cased, they are its spelling, and the number 0 exactly when they are no word's.
 -- Assumes nothing.
 use mathlib.Core.Path.{_≡_, refl, sym, ap, _∙_}
-use mathlib.Core.Bool.{Bool, true, false, cond, not, _&&_, true≢false}
+use mathlib.Core.Bool.{Bool, true, false, cond, not, _&&_}
 use mathlib.Core.Logic.{_↔_}
 use mathlib.Core.List.{List, [], _∷_, map, List·Memᴰ, List·Memᴰ·head, List·Memᴰ·tail, List·Memᴰ·not-nil}
 use Prim.Native.Nat.{ℕ}
 use lib.Dec.{eqb}
 use borrow.Author.Tests.{eqb-false, not-true}
 use Rattle.words.specs.Words.{Word, words, NO-WORD, upperOf, equal, numberIn, wordOf}
-use Rattle.words.proofs.Equal.{one-list, with-itself}
+use Rattle.words.proofs.Equal.{one-list, with-itself, not-one-list}
 use Rattle.words.proofs.Every.{left, right, every, each}
 
 -- two words with neither number nor spelling in common
@@ -18,10 +18,6 @@ apart v w = not (eqb (v .number) (w .number)) && not (equal (v .spelling) (w .sp
 abbrev distinct : List Word → Bool
 distinct [] = true
 distinct (v ∷ vs) = not (eqb (v .number) NO-WORD) && (every (apart v) vs && distinct vs)
-
--- a test that fails, as a fact
-unequal : (a b : List ℕ) → equal a b ≡ false → a ≡ b → ⊥
-unequal a b n e = true≢false (sym (ap (λ (l : List ℕ). equal l b) e ∙ with-itself b) ∙ n)
 
 module _ (s : List ℕ) where
   spelt : (v : Word) → s ≡ v .spelling → equal s (v .spelling) ≡ true
@@ -35,7 +31,7 @@ module _ (s : List ℕ) where
     where
       go : (t : Bool) → equal s (v .spelling) ≡ t → P
       go true e = met (one-list s (v .spelling) e) (ap (λ (t : Bool). cond t (v .number) (numberIn vs s)) e)
-      go false e = passed (unequal s (v .spelling) e) (ap (λ (t : Bool). cond t (v .number) (numberIn vs s)) e)
+      go false e = passed (not-one-list s (v .spelling) e) (ap (λ (t : Bool). cond t (v .number) (numberIn vs s)) e)
 
   none : (vs : List Word) → ((w : Word) → List·Memᴰ w vs → s ≡ w .spelling → ⊥) → numberIn vs s ≡ NO-WORD
   none [] never = refl
@@ -67,7 +63,7 @@ module _ (s : List ℕ) where
       other-number = eqb-false _ _ (not-true (eqb (v .number) (w .number)) (left _ _ are-apart))
 
       other-spelling : v .spelling ≡ w .spelling → ⊥
-      other-spelling = unequal _ _ (not-true (equal (v .spelling) (w .spelling)) (right (not (eqb (v .number) (w .number))) _ are-apart))
+      other-spelling = not-one-list _ _ (not-true (equal (v .spelling) (w .spelling)) (right (not (eqb (v .number) (w .number))) _ are-apart))
 
   found : (vs : List Word) → distinct vs ≡ true → (w : Word) → List·Memᴰ w vs → s ≡ w .spelling → numberIn vs s ≡ w .number
   found [] d w m e = absurd (List·Memᴰ·not-nil m)
@@ -100,6 +96,6 @@ spells s w m = (only (map upperOf s) words words-distinct w m, found (map upperO
 pub spells-none : (s : List ℕ) → (wordOf s ≡ NO-WORD) ↔ ((w : Word) → List·Memᴰ w words → map upperOf s ≡ w .spelling → ⊥)
 unfolding wordOf
 spells-none s = (
-      (λ e w m p. some-number (map upperOf s) words words-distinct w m (sym (found (map upperOf s) words words-distinct w m p) ∙ e)),
-      none (map upperOf s) words,
-    )
+  (λ e w m p. some-number (map upperOf s) words words-distinct w m (sym (found (map upperOf s) words words-distinct w m p) ∙ e)),
+  none (map upperOf s) words,
+)

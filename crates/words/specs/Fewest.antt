@@ -1,5 +1,5 @@
 -- The fewest words that have given flags.
-use mathlib.Core.Bool.{Bool, true, false, cond}
+use mathlib.Core.Bool.{cond}
 use mathlib.Core.List.{List, [], _∷_, _++_}
 use Prim.Native.Nat.{ℕ, _-_}
 use lib.Dec.{eqb}
@@ -11,7 +11,7 @@ use Rattle.words.specs.declared.Writing.{Writing}
 unfoldable pub endings : List ℕ
 endings = CROSS ∷ INNER ∷ FULL ∷ LEFT ∷ RIGHT ∷ []
 
--- the one of these words that has these flags
+-- the one of these words whose flags these are
 abbrev pub withFlags : List ℕ → ℕ → ℕ
 withFlags [] f = NO-WORD
 withFlags (w ∷ ws) f = cond (eqb f (flagsOf w)) w (withFlags ws f)
@@ -22,18 +22,18 @@ endingOf f = withFlags endings f
 abbrev pub writing : ℕ → ℕ → Writing
 writing first second = record { first = first; second = second }
 
--- NATURAL, and after it the one word that has the rest, if anything is left; where no word has it, no words
+-- NATURAL first, then the one word whose flags are the rest; NATURAL alone where nothing is left, and no words where no word has the rest
 abbrev pub afterNatural : ℕ → Writing
 afterNatural rest =
     cond (eqb rest NO-FLAGS) (writing NATURAL NO-WORD)
     (cond (eqb (endingOf rest) NO-WORD) (writing NO-WORD NO-WORD)
     (writing NATURAL (endingOf rest)))
 
--- flags that no legal words have are written by no words
+-- NATURAL stands there if its bit does. For every number that is not the flags of such words: no words
 unfoldable pub fewestOf : ℕ → Writing
 fewestOf f = cond (has f NATURAL-BIT) (afterNatural (f - NATURAL-BIT)) (writing (endingOf f) NO-WORD)
 
--- the words of a writing: where none stands is 0
+-- the words that stand in a writing
 abbrev pub present : ℕ → List ℕ
 present w = cond (eqb w NO-WORD) [] (w ∷ [])
 

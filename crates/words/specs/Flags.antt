@@ -1,15 +1,16 @@
 -- The flags of the join words, their union, and which are refused.
-use mathlib.Core.Bool.{Bool, true, false, cond, not, _&&_, _||_}
+use mathlib.Core.Bool.{Bool, cond, not, _&&_, _||_}
 use mathlib.Core.List.{List, [], _∷_}
 use Prim.Native.Nat.{ℕ}
 use lib.Bits.{bitAnd, bitOr}
 use lib.Dec.{eqb}
 use Rattle.words.specs.Words.{Word, words}
 
--- "Words, numbers and flags: .."; no other number has any
+-- what no word has
 abbrev pub NO-FLAGS : ℕ
 NO-FLAGS = 0
 
+-- "Words, numbers and flags": the table is `words`, and a number that it lacks has no flags
 abbrev pub flagsIn : List Word → ℕ → ℕ
 flagsIn [] n = NO-FLAGS
 flagsIn (w ∷ ws) n = cond (eqb n (w .number)) (w .flags) (flagsIn ws n)
@@ -39,6 +40,7 @@ OUTER-BIT = 32
 abbrev pub united : ℕ → ℕ → ℕ
 united a b = bitOr a b
 
+-- the flags have the bit
 abbrev pub has : ℕ → ℕ → Bool
 has flags bit = not (eqb (bitAnd flags bit) 0)
 

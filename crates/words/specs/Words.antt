@@ -1,7 +1,7 @@
 -- The join words: their numbers, spellings and flags, and the number that bytes have.
 use mathlib.Core.Bool.{Bool, true, false, cond, _&&_}
 use mathlib.Core.List.{List, [], _∷_, map}
-use Prim.Native.Nat.{ℕ, _+_, _-_}
+use Prim.Native.Nat.{ℕ, _-_}
 use lib.Dec.{leb, eqb}
 use Rattle.words.specs.Letters.{A, C, E, F, G, H, I, L, N, O, R, S, T, U, small-a, small-z}
 
@@ -43,7 +43,7 @@ words =
     record { number = OUTER; spelling = O ∷ U ∷ T ∷ E ∷ R ∷ []; flags = 32 } ∷
     []
 
--- none of them
+-- where a word may stand and none does
 abbrev pub NO-WORD : ℕ
 NO-WORD = 0
 

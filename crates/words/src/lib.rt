@@ -7,31 +7,48 @@ ghost use Rattle.words.specs.Flags.{flagsOf, united, has, legal};
 ghost use Rattle.words.specs.Fewest.{endingOf, fewestOf};
 
 pub const CROSS: u32 = 1;
+
 pub const FULL: u32 = 2;
+
 pub const INNER: u32 = 3;
+
 pub const LEFT: u32 = 4;
+
 pub const NATURAL: u32 = 5;
+
 pub const RIGHT: u32 = 6;
+
 pub const OUTER: u32 = 7;
 
 // Where a word may stand and none does, and what bytes that are no word give.
 pub const NO_WORD: u32 = 0;
 
 pub const INNER_BIT: u32 = 1;
+
 pub const CROSS_BIT: u32 = 2;
+
 pub const NATURAL_BIT: u32 = 4;
+
 pub const LEFT_BIT: u32 = 8;
+
 pub const RIGHT_BIT: u32 = 16;
+
 pub const OUTER_BIT: u32 = 32;
 
 pub const NO_FLAGS: u32 = 0;
 
 const CROSS_FLAGS: u32 = INNER_BIT | CROSS_BIT;
+
 const FULL_FLAGS: u32 = LEFT_BIT | RIGHT_BIT | OUTER_BIT;
+
 const INNER_FLAGS: u32 = INNER_BIT;
+
 const LEFT_FLAGS: u32 = LEFT_BIT | OUTER_BIT;
+
 const NATURAL_FLAGS: u32 = NATURAL_BIT;
+
 const RIGHT_FLAGS: u32 = RIGHT_BIT | OUTER_BIT;
+
 const OUTER_FLAGS: u32 = OUTER_BIT;
 
 // The byte, a small ASCII letter as its capital.
@@ -123,16 +140,16 @@ fn has(flags: u32, bit: u32) -> bool
 pub fn legal(flags: u32) -> bool
     ensures { λ r. ⌜ r ≡ legal flags ⌝ }
 {
-    if !has(flags, OUTER_BIT) {
-        return true;
+    if has(flags, OUTER_BIT) {
+        if has(flags, INNER_BIT) {
+            return false;
+        }
+        if has(flags, LEFT_BIT) {
+            return true;
+        }
+        return has(flags, RIGHT_BIT);
     }
-    if has(flags, INNER_BIT) {
-        return false;
-    }
-    if has(flags, LEFT_BIT) {
-        return true;
-    }
-    has(flags, RIGHT_BIT)
+    true
 }
 
 // One or two words, NO_WORD for none.
@@ -159,28 +176,28 @@ fn ending(flags: u32) -> u32
 pub fn fewest(flags: u32) -> Writing
     ensures { λ r. ⌜ r ≡ fewestOf flags ⌝ }
 {
-    if !has(flags, NATURAL_BIT) {
-        return Writing {
-            first: ending(flags),
-            second: NO_WORD,
-        };
-    }
-    let rest = flags - NATURAL_BIT;
-    if rest == NO_FLAGS {
+    if has(flags, NATURAL_BIT) {
+        let rest = flags - NATURAL_BIT;
+        if rest == NO_FLAGS {
+            return Writing {
+                first: NATURAL,
+                second: NO_WORD,
+            };
+        }
+        let last = ending(rest);
+        if last == NO_WORD {
+            return Writing {
+                first: NO_WORD,
+                second: NO_WORD,
+            };
+        }
         return Writing {
             first: NATURAL,
-            second: NO_WORD,
-        };
-    }
-    let last = ending(rest);
-    if last == NO_WORD {
-        return Writing {
-            first: NO_WORD,
-            second: NO_WORD,
+            second: last,
         };
     }
     Writing {
-        first: NATURAL,
-        second: last,
+        first: ending(flags),
+        second: NO_WORD,
     }
 }

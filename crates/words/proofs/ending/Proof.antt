@@ -1,4 +1,3 @@
--- Made by `proofkit expand` from Proof.tmpl beside it: edit that file.
 -- `words::ending` meets its contract: `endingOf` computes at the flags of each of the five words, and any other flags fail its five tests.
 -- Assumes nothing.
 use mathlib.Core.Path.{sym, ap}
@@ -8,8 +7,6 @@ use Rattle.words.specs.Flags.{flagsOf}
 use Rattle.words.specs.Fewest.{endings, endingOf}
 use Rattle.words.proofs.ending.Statement.{statement}
 use Rattle.words.proofs.ending.Tie as tie
-use Rattle.words.proofs.ending.Reads as reads
-use Rattle.words.proofs.ending.Lts as lts
 
 returns : tie.Need-returns
 unfolding endingOf endings flagsOf words

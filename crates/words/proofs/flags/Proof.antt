@@ -1,4 +1,3 @@
--- Made by `proofkit expand` from Proof.tmpl beside it: edit that file.
 -- `words::flags` meets its contract: `flagsOf` computes at each of the seven numbers, and any other fails its seven tests.
 -- Assumes nothing.
 use mathlib.Core.Path.{sym, ap}
@@ -7,8 +6,6 @@ use Rattle.words.specs.Words.{words}
 use Rattle.words.specs.Flags.{flagsOf}
 use Rattle.words.proofs.flags.Statement.{statement}
 use Rattle.words.proofs.flags.Tie as tie
-use Rattle.words.proofs.flags.Reads as reads
-use Rattle.words.proofs.flags.Lts as lts
 
 returns : tie.Need-returns
 unfolding flagsOf words

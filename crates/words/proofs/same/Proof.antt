@@ -1,35 +1,29 @@
--- Made by `proofkit expand` from Proof.tmpl beside it: edit that file.
--- `words::same` meets its contract. The loop's invariant: the two are of one length, and what is left from place i on decides whether they are
--- one list. The measure is what is left of the length. Assumes nothing.
-use mathlib.Core.Path.{_≡_, refl, sym, _∙_}
+-- `words::same` meets its contract. The loop's invariant: the two are of one length, and what is left from place i on decides. The
+-- measure is what is left of the length. Assumes nothing.
+use mathlib.Core.Path.{_≡_, sym, _∙_}
 use mathlib.Core.List.{map}
 use Prim.Native.Nat.{_≤_, _-_}
 use native.Mathlib.Omega.{arith}
-use lib.ListN.{length, drop, length-map, List·getD-map}
+use lib.ListN.{length}
 use Rattle.words.specs.Words.{upperOf, equal}
-use Rattle.words.proofs.Equal.{goes-on, stops, at-the-end, of-one-length}
+use Rattle.words.proofs.Compared.{leftEqual, at-first, at-last, goes-on, stops, of-other-length}
 use Rattle.words.proofs.same.Statement.{statement}
 use Rattle.words.proofs.same.Tie as tie
-use Rattle.words.proofs.same.Reads as reads
-use Rattle.words.proofs.same.Lts as lts
-use Rattle.words.proofs.upper.Reads as upper-reads
 
 abbrev Inv-loop : tie.InvT-loop
-Inv-loop s word i₀ i =
-    (i ≤ length s) × (length s ≡ length word)
-    × (equal (map upperOf s) word ≡ equal (drop i (map upperOf s)) (drop i word))
+Inv-loop s word i₀ i = (i ≤ length s) × (length s ≡ length word) × (equal (map upperOf s) word ≡ leftEqual s word i)
 
 abbrev μ-loop : tie.MeasureT-loop
 μ-loop s word i₀ i = length s - i
 
 returns : tie.Need-returns Inv-loop μ-loop
-returns c = sym (of-one-length (map upperOf (c .before .before .before .args .s .now)) (c .before .before .before .args .word .now) (λ e. c .if1 .taken (sym (length-map (c .before .before .before .args .s .now) upperOf) ∙ e)))
+returns c = sym (of-other-length (c .before .before .before .args .s .now) (c .before .before .before .args .word .now) (λ e. omega arith))
 
 loop-holds : tie.Need-loop-holds Inv-loop μ-loop
-loop-holds c = (omega arith, c .if1 .left, refl)
+loop-holds c = (omega arith, omega arith, at-first _ _)
 
 shared-slice-read-upper : tie.Need-shared-slice-read-upper Inv-loop μ-loop
-shared-slice-read-upper c = c .before .loop-test .taken
+shared-slice-read-upper c = omega arith
 
 upper-requires : tie.Need-upper-requires Inv-loop μ-loop
 upper-requires c κs = tt
@@ -38,9 +32,7 @@ shared-slice-read-if2 : tie.Need-shared-slice-read-if2 Inv-loop μ-loop
 shared-slice-read-if2 c = omega arith
 
 returns-2 : tie.Need-returns-2 Inv-loop μ-loop
-returns-2 c =
-    sym (c .before .before .before .before .before .loop .inv .2
-    ∙ stops (map upperOf (c .before .before .before .before .before .before .before .before .before .args .s .now)) (c .before .before .before .before .before .before .before .before .before .args .word .now) (c .before .before .before .before .before .loop .i) (omega (arith, length-map (c .before .before .before .before .before .before .before .before .before .args .s .now) upperOf)) (omega arith) (λ e. c .if2 .taken (c .before .before .upper .ensures ∙ sym (List·getD-map upperOf (c .before .before .before .before .before .before .before .before .before .args .s .now) (c .before .before .before .before .before .loop .i) 0) ∙ e)))
+returns-2 c = sym (c .before .before .before .before .before .loop .inv .2 ∙ stops _ _ _ (omega arith) (omega arith) (λ e. c .if2 .taken (c .before .before .upper .ensures ∙ e)))
 
 add-i : tie.Need-add-i Inv-loop μ-loop
 add-i c = omega arith
@@ -50,14 +42,13 @@ loop-less c = omega arith
 
 loop-again : tie.Need-loop-again Inv-loop μ-loop
 loop-again c = (
-      omega arith,
-      c .before .before .before .before .before .loop .inv .1,
-      c .before .before .before .before .before .loop .inv .2
-      ∙ goes-on (map upperOf (c .before .before .before .before .before .before .before .before .before .args .s .now)) (c .before .before .before .before .before .before .before .before .before .args .word .now) (c .before .before .before .before .before .loop .i) (omega (arith, length-map (c .before .before .before .before .before .before .before .before .before .args .s .now) upperOf)) (omega arith) (List·getD-map upperOf (c .before .before .before .before .before .before .before .before .before .args .s .now) (c .before .before .before .before .before .loop .i) 0 ∙ sym (c .before .before .upper .ensures) ∙ c .if2 .left),
-    )
+  omega arith,
+  omega arith,
+  c .before .before .before .before .before .loop .inv .2 ∙ goes-on _ _ _ (omega arith) (omega arith) (sym (c .before .before .upper .ensures) ∙ c .if2 .left),
+)
 
 returns-3 : tie.Need-returns-3 Inv-loop μ-loop
-returns-3 c = sym (c .before .loop .inv .2 ∙ at-the-end (map upperOf (c .before .before .before .before .before .args .s .now)) (c .before .before .before .before .before .args .word .now) (c .before .loop .i) (omega (arith, length-map (c .before .before .before .before .before .args .s .now) upperOf)) (omega arith))
+returns-3 c = sym (c .before .loop .inv .2 ∙ at-last _ _ _ (omega arith) (omega arith))
 
 pub same-spec : {M : Type 1} → statement M
 same-spec =

@@ -1,4 +1,3 @@
--- Made by `proofkit expand` from Proof.tmpl beside it: edit that file.
 -- `words::upper` meets its contract: the tests that led to each `return` are those of `upperOf`.
 -- Assumes nothing.
 use native.Mathlib.Nat.{le-of-suc-le-suc as at-most}
@@ -6,8 +5,6 @@ use borrow.Author.Tests.{le-leb, lt-leb}
 use borrow.Author.Needs.{needs}
 use Rattle.words.proofs.upper.Statement.{statement}
 use Rattle.words.proofs.upper.Tie as tie
-use Rattle.words.proofs.upper.Reads as reads
-use Rattle.words.proofs.upper.Lts as lts
 
 sub-result : tie.Need-sub-result
 sub-result c = search needs

@@ -1,4 +1,3 @@
--- Made by `proofkit expand` from Proof.tmpl beside it: edit that file.
 -- `words::word` meets its contract: the comparisons on the way to each `return` are those of `wordOf`, in its order.
 -- Assumes nothing.
 use Rattle.words.specs.Words.{words}
@@ -6,9 +5,6 @@ use Rattle.words.proofs.Lookup.{met, passed, at-the-end, whole}
 use borrow.Author.Needs.{needs}
 use Rattle.words.proofs.word.Statement.{statement}
 use Rattle.words.proofs.word.Tie as tie
-use Rattle.words.proofs.word.Reads as reads
-use Rattle.words.proofs.word.Lts as lts
-use Rattle.words.proofs.same.Reads as same-reads
 
 slice-aggregate-same : tie.Need-slice-aggregate-same
 slice-aggregate-same c = search needs
