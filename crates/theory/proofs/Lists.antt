@@ -25,7 +25,7 @@ unfoldable pub linesOf : ℕ → List Line → List Line
 linesOf C [] = []
 linesOf C (e ∷ es) = pick (mem C (e .of)) (e ∷ linesOf C es) (λ w. linesOf C es)
 
-lookup-lines : (C k : ℕ) (es : List Line) → lookup C k es ≡ lookup C k (linesOf C es)
+pub lookup-lines : (C k : ℕ) (es : List Line) → lookup C k es ≡ lookup C k (linesOf C es)
 unfolding lookup linesOf pick both
 lookup-lines C k [] = refl
 lookup-lines C k (e ∷ es) = by-bool (mem C (e .of)) (λ h. yes h (lookup-lines C k es)) (λ h. no h (lookup-lines C k es))

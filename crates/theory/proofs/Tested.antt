@@ -40,7 +40,7 @@ unfolding mem pick
 mem-append-r k [] b e = e
 mem-append-r k (c ∷ a) b e = pick-case (λ z. z ≡ true) (eqb k c) true _ (λ h. refl) (λ h. mem-append-r k a b e)
 
-all-mem : (p : ℕ → Bool) (l : List ℕ) (k : ℕ) → allb p l ≡ true → mem k l ≡ true → p k ≡ true
+pub all-mem : (p : ℕ → Bool) (l : List ℕ) (k : ℕ) → allb p l ≡ true → mem k l ≡ true → p k ≡ true
 unfolding mem allb
 all-mem p [] k a m = 0≢1 m
 all-mem p (c ∷ l) k a m = pick-inv (eqb k c) true _ true m

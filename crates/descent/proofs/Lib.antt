@@ -1,0 +1,5 @@
+pub mod Equations
+pub mod SameRow
+pub mod TableFacts
+pub mod Steps
+pub mod Growing

@@ -1,0 +1,4 @@
+-- What the laws speak of.
+pub mod Places
+pub mod Named
+pub mod Grown
