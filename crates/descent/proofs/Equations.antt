@@ -86,39 +86,39 @@ the-end = refl
 
 module _ (K T : List ℕ) (ok : Sound K T) where
   pub call-at : (c : Around) (A : Nt) (n : ℕ)
-    → calls K T c A n ≡ onRow (enterOf sql A (kindAt K n))
-        (λ q. check (judge c q nil (tokAt K T n) nil) n (λ w. rests K T (record { c = c; A = A; r = q; l = nil; t = tokAt K T n }) (q .items) nil (n + 1)))
-        (λ w. onBool (nullOf sql A) (λ w. got nil n (from K T n)) (refused (wrong (kindAt K n)) n))
+      → calls K T c A n ≡ onRow (enterOf sql A (kindAt K n))
+      (λ q. check (judge c q nil (tokAt K T n) nil) n (λ w. rests K T (record { c = c; A = A; r = q; l = nil; t = tokAt K T n }) (q .items) nil (n + 1)))
+      (λ w. onBool (nullOf sql A) (λ w. got nil n (from K T n)) (refused (wrong (kindAt K n)) n))
   unfolding call onRow enterOf
   call-at c A n = by-bool (ltb n (length K))
-    (λ h. let i = ltb-true n (length K) h in rw (from-in K T n (ok .equal) i, wrong-some (kindAt K n) (ok .some n i)))
-    (λ h. let i = ltb-false n (length K) h in rw (from-end K T n (ok .equal) i, kind-end K n i, the-end, enter-end A, wrong-end))
+      (λ h. let i = ltb-true n (length K) h in rw (from-in K T n (ok .equal) i, wrong-some (kindAt K n) (ok .some n i)))
+      (λ h. let i = ltb-false n (length K) h in rw (from-end K T n (ok .equal) i, kind-end K n i, the-end, enter-end A, wrong-end))
 
   -- a nonterminal among the items is called, and what is left goes on
   pub nt-at : (F : OpenRow) (B : Nt) (is : List Item) (k : Tree) (n : ℕ)
-    → rests K T F (nt B ∷ is) k n ≡ onGot (calls K T (below (F .r) (F .c)) B n)
-        (λ x n' us'. rest G Around under judge (F .c) (F .A) (F .r) (F .l) (F .t) is (add k x) n' us')
+      → rests K T F (nt B ∷ is) k n ≡ onGot (calls K T (below (F .r) (F .c)) B n)
+      (λ x n' us'. rest G Around under judge (F .c) (F .A) (F .r) (F .l) (F .t) is (add k x) n' us')
   nt-at F B is k n = rest-nt G Around under judge (F .c) (F .A) (F .r) (F .l) (F .t) B is k n (from K T n)
 
   pub lit-at : (F : OpenRow) (d : ℕ) (is : List Item) (k : Tree) (n : ℕ) → 0 < d
-    → rests K T F (lit d ∷ is) k n ≡ onBool (eqb d (kindAt K n))
-        (λ w. check (judge (F .c) (F .r) (F .l) (F .t) (add k (leaf (tokAt K T n)))) n (λ w. rests K T F is (add k (leaf (tokAt K T n))) (n + 1)))
-        (refused (wrong (kindAt K n)) n)
+      → rests K T F (lit d ∷ is) k n ≡ onBool (eqb d (kindAt K n))
+      (λ w. check (judge (F .c) (F .r) (F .l) (F .t) (add k (leaf (tokAt K T n)))) n (λ w. rests K T F is (add k (leaf (tokAt K T n))) (n + 1)))
+      (refused (wrong (kindAt K n)) n)
   unfolding onBool
   lit-at F d is k n pos = by-bool (ltb n (length K))
-    (λ h. let i = ltb-true n (length K) h in rw (from-in K T n (ok .equal) i, wrong-some (kindAt K n) (ok .some n i))
+      (λ h. let i = ltb-true n (length K) h in rw (from-in K T n (ok .equal) i, wrong-some (kindAt K n) (ok .some n i))
       (rest-lit G Around under judge (F .c) (F .A) (F .r) (F .l) (F .t) d is k n (tokAt K T n) (from K T (n + 1))))
-    (λ h. let i = ltb-false n (length K) h in rw (from-end K T n (ok .equal) i, kind-end K n i, ne-eqb d 0 (λ e. omega arith), wrong-end)
+      (λ h. let i = ltb-false n (length K) h in rw (from-end K T n (ok .equal) i, kind-end K n i, ne-eqb d 0 (λ e. omega arith), wrong-end)
       (rest-lit-end G Around under judge (F .c) (F .A) (F .r) (F .l) (F .t) d is k n))
 
   -- at the end of a row: it goes on, with what was read as its left operand, or it is whole
   pub end-at : (F : OpenRow) (k : Tree) (n : ℕ)
-    → rests K T F [] k n ≡ onRow (contOf sql (F .A) (F .r) (capOf k) (kindAt K n))
-        (λ q. check (judge (F .c) q (node (F .r) (F .l) (F .t) k) (tokAt K T n) nil) n
-          (λ w. rests K T (record { c = F .c; A = F .A; r = q; l = node (F .r) (F .l) (F .t) k; t = tokAt K T n }) (q .items) nil (n + 1)))
-        (λ w. got (node (F .r) (F .l) (F .t) k) n (from K T n))
+      → rests K T F [] k n ≡ onRow (contOf sql (F .A) (F .r) (capOf k) (kindAt K n))
+      (λ q. check (judge (F .c) q (node (F .r) (F .l) (F .t) k) (tokAt K T n) nil) n
+      (λ w. rests K T (record { c = F .c; A = F .A; r = q; l = node (F .r) (F .l) (F .t) k; t = tokAt K T n }) (q .items) nil (n + 1)))
+      (λ w. got (node (F .r) (F .l) (F .t) k) n (from K T n))
   unfolding onRow contOf
   end-at F k n = by-bool (ltb n (length K))
-    (λ h. let i = ltb-true n (length K) h in rw (from-in K T n (ok .equal) i) (rest-end G Around under judge (F .c) (F .A) (F .r) (F .l) (F .t) k n (tokAt K T n) (from K T (n + 1))))
-    (λ h. let i = ltb-false n (length K) h in rw (from-end K T n (ok .equal) i, kind-end K n i, cont-end (F .A) (F .r) (capOf k))
+      (λ h. let i = ltb-true n (length K) h in rw (from-in K T n (ok .equal) i) (rest-end G Around under judge (F .c) (F .A) (F .r) (F .l) (F .t) k n (tokAt K T n) (from K T (n + 1))))
+      (λ h. let i = ltb-false n (length K) h in rw (from-end K T n (ok .equal) i, kind-end K n i, cont-end (F .A) (F .r) (capOf k))
       (rest-end-end G Around under judge (F .c) (F .A) (F .r) (F .l) (F .t) k n ∙ rw (the-end, cont-end (F .A) (F .r) (capOf k))))

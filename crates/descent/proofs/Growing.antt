@@ -20,9 +20,10 @@ grown-none m N = record { many = omega arith; table = refl }
 
 module _ {m m1 m2 : ℕ} {N N1 N2 : List ℕ} where
   pub grown-append : {rs ss : List Rec} → Grown m N m1 N1 rs → Grown m1 N1 m2 N2 ss → Grown m N m2 N2 (rs ++ ss)
-  grown-append {rs} {ss} g h = record
-    { many = omega (arith, g .many, h .many, length-append rs ss)
-    ; table = h .table ∙ ap (λ z. fill z m1 ss) (g .table) ∙ ap (λ z. fill (fill N m rs) z ss) (g .many) ∙ sym (fill-append N m rs ss) }
+  grown-append {rs} {ss} g h = record {
+    many = omega (arith, g .many, h .many, length-append rs ss);
+    table = h .table ∙ ap (λ z. fill z m1 ss) (g .table) ∙ ap (λ z. fill (fill N m rs) z ss) (g .many) ∙ sym (fill-append N m rs ss);
+  }
 
   -- one more record
   pub grown-put : {rs : List Rec} (r : Rec) → Grown m N m1 N1 rs → m2 ≡ m1 + 1 → N2 ≡ put N1 m1 r → Grown m N m2 N2 (rs ++ (r ∷ []))
@@ -42,7 +43,7 @@ pub side-append : (us vs : List Val) → recsAll (us ++ vs) ≡ recsAll us ++ re
 unfolding side records
 side-append [] vs = refl
 side-append (u ∷ us) vs = records-beside (u .nodes) (side (us ++ vs)) ∙ ap (λ z. recs u ++ z) (side-append us vs)
-  ∙ sym (append-assoc (recs u) (recsAll us) (recsAll vs)) ∙ ap (λ z. z ++ recsAll vs) (sym (records-beside (u .nodes) (side us)))
+    ∙ sym (append-assoc (recs u) (recsAll us) (recsAll vs)) ∙ ap (λ z. z ++ recsAll vs) (sym (records-beside (u .nodes) (side us)))
 
 pub count-beside : (ns ms : Nodes) → count (beside ns ms) ≡ count ns + count ms
 unfolding count beside
@@ -55,6 +56,6 @@ recs-one c d vs = refl
 
 module _ {m m1 m2 : ℕ} {N N1 N2 : List ℕ} (c d : ℕ) (vs : List Val) where
   pub grown-one : (n s : ℕ) → Grown m N m1 N1 (recsAll vs) → n ≡ count (side vs) → s ≡ m1 - m + 1 → m2 ≡ m1 + 1 → N2 ≡ put N1 m1 (rec c d n s)
-    → Grown m N m2 N2 (recs (one c d vs))
+      → Grown m N m2 N2 (recs (one c d vs))
   grown-one n s g e f h t = rw (recs-one c d vs) (grown-put (rec c d (count (side vs)) (length (recsAll vs) + 1)) g h
-    (t ∙ rw (e) (ap (λ z. put N1 m1 (rec c d (count (side vs)) z)) (omega (arith, f, g .many)))))
+      (t ∙ rw (e) (ap (λ z. put N1 m1 (rec c d (count (side vs)) z)) (omega (arith, f, g .many)))))

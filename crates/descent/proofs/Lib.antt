@@ -3,3 +3,5 @@ pub mod SameRow
 pub mod TableFacts
 pub mod Steps
 pub mod Growing
+pub mod ClassFacts
+pub mod Rules

@@ -60,14 +60,14 @@ same-items (i ∷ is) (j ∷ js) e = let p = same-item i j (both-l _ (eqItems is
 pub same-row : (q r : Row) → eqRow q r ≡ true → q ≡ r
 unfolding eqRow
 same-row q r e =
-  let a = both-l (eqb (q .code) (r .code)) _ e in let e1 = both-r (eqb (q .code) (r .code)) _ e in
-  let b = both-l (eqb (q .str) (r .str)) _ e1 in let e2 = both-r (eqb (q .str) (r .str)) _ e1 in
-  let c = both-l (eqb (q .left) (r .left)) _ e2 in let e3 = both-r (eqb (q .left) (r .left)) _ e2 in
-  let d = both-l (eqb (q .cap) (r .cap)) _ e3 in let f = both-r (eqb (q .cap) (r .cap)) _ e3 in
-  fields (eqb-eq (q .code) (r .code) a) (eqb-eq (q .str) (r .str) b) (eqb-eq (q .left) (r .left) c) (eqb-eq (q .cap) (r .cap) d) (same-items (q .items) (r .items) f)
+    let a = both-l (eqb (q .code) (r .code)) _ e in let e1 = both-r (eqb (q .code) (r .code)) _ e in
+    let b = both-l (eqb (q .str) (r .str)) _ e1 in let e2 = both-r (eqb (q .str) (r .str)) _ e1 in
+    let c = both-l (eqb (q .left) (r .left)) _ e2 in let e3 = both-r (eqb (q .left) (r .left)) _ e2 in
+    let d = both-l (eqb (q .cap) (r .cap)) _ e3 in let f = both-r (eqb (q .cap) (r .cap)) _ e3 in
+    fields (eqb-eq (q .code) (r .code) a) (eqb-eq (q .str) (r .str) b) (eqb-eq (q .left) (r .left) c) (eqb-eq (q .cap) (r .cap) d) (same-items (q .items) (r .items) f)
   where
     fields : q .code ≡ r .code → q .str ≡ r .str → q .left ≡ r .left → q .cap ≡ r .cap → q .items ≡ r .items
-      → _≡_ {A = Row} (record { code = q .code; str = q .str; left = q .left; cap = q .cap; items = q .items }) (record { code = r .code; str = r .str; left = r .left; cap = r .cap; items = r .items })
+        → _≡_ {A = Row} (record { code = q .code; str = q .str; left = q .left; cap = q .cap; items = q .items }) (record { code = r .code; str = r .str; left = r .left; cap = r .cap; items = r .items })
     fields a b c d f = rw (a, b, c, d, f)
 
 pub same-found : (o p : Option Row) → eqFound o p ≡ true → o ≡ p
@@ -86,8 +86,8 @@ pub throughout : (n : ℕ) (p : ℕ → Bool) → below? n p ≡ true → (k : �
 unfolding below?
 throughout zero p e k h = absurd (omega arith)
 throughout (suc n) p e k h = by-bool (eqb k n)
-  (λ g. rw (eqb-eq k n g) (both-l (p n) (below? n p) e))
-  (λ g. throughout n p (both-r (p n) (below? n p) e) k (let w = eqb-false k n g in under k n h w))
+    (λ g. rw (eqb-eq k n g) (both-l (p n) (below? n p) e))
+    (λ g. throughout n p (both-r (p n) (below? n p) e) k (let w = eqb-false k n g in under k n h w))
   where
     under : (k n : ℕ) → k < suc n → (k ≡ n → ⊥) → k < n
     under k n h w = omega (arith, w)

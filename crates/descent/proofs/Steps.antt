@@ -21,22 +21,22 @@ use Rattle.descent.proofs.Equations.{call-at, nt-at, lit-at, end-at}
 
 module _ (K T : List ℕ) (ok : Sound K T) where
   pub nt-got : (F : OpenRow) (B : Nt) (is : List Item) (k : Tree) (n : ℕ) {x : Tree} {n' : ℕ}
-    → calls K T (below (F .r) (F .c)) B n ≡ got x n' (from K T n') → rests K T F (nt B ∷ is) k n ≡ rests K T F is (add k x) n'
+      → calls K T (below (F .r) (F .c)) B n ≡ got x n' (from K T n') → rests K T F (nt B ∷ is) k n ≡ rests K T F is (add k x) n'
   unfolding onGot
   nt-got F B is k n e = nt-at K T ok F B is k n ∙ rw e
 
   pub nt-refused : (F : OpenRow) (B : Nt) (is : List Item) (k : Tree) (n : ℕ) {m p : ℕ}
-    → calls K T (below (F .r) (F .c)) B n ≡ refused m p → rests K T F (nt B ∷ is) k n ≡ refused m p
+      → calls K T (below (F .r) (F .c)) B n ≡ refused m p → rests K T F (nt B ∷ is) k n ≡ refused m p
   unfolding onGot
   nt-refused F B is k n e = nt-at K T ok F B is k n ∙ rw e
 
   pub lit-got : (F : OpenRow) (d : ℕ) (is : List Item) (k : Tree) (n : ℕ) → 0 < d → kindAt K n ≡ d
-    → judge (F .c) (F .r) (F .l) (F .t) (add k (leaf (tokAt K T n))) ≡ 0 → rests K T F (lit d ∷ is) k n ≡ rests K T F is (add k (leaf (tokAt K T n))) (n + 1)
+      → judge (F .c) (F .r) (F .l) (F .t) (add k (leaf (tokAt K T n))) ≡ 0 → rests K T F (lit d ∷ is) k n ≡ rests K T F is (add k (leaf (tokAt K T n))) (n + 1)
   unfolding onBool check
   lit-got F d is k n p e j = lit-at K T ok F d is k n p ∙ rw (eqb-true d (kindAt K n) (sym e), j)
 
   pub lit-word : (F : OpenRow) (d : ℕ) (is : List Item) (k : Tree) (n m : ℕ) → 0 < d → kindAt K n ≡ d
-    → judge (F .c) (F .r) (F .l) (F .t) (add k (leaf (tokAt K T n))) ≡ suc m → rests K T F (lit d ∷ is) k n ≡ refused (suc m) n
+      → judge (F .c) (F .r) (F .l) (F .t) (add k (leaf (tokAt K T n))) ≡ suc m → rests K T F (lit d ∷ is) k n ≡ refused (suc m) n
   unfolding onBool check
   lit-word F d is k n m p e j = lit-at K T ok F d is k n p ∙ rw (eqb-true d (kindAt K n) (sym e), j)
 
@@ -45,7 +45,7 @@ module _ (K T : List ℕ) (ok : Sound K T) where
   lit-wrong F d is k n p e = lit-at K T ok F d is k n p ∙ rw (ne-eqb d (kindAt K n) (λ z. e (sym z)))
 
   pub call-in : (c : Around) (A : Nt) (n : ℕ) (q : Row) → enterOf sql A (kindAt K n) ≡ some q → judge c q nil (tokAt K T n) nil ≡ 0
-    → calls K T c A n ≡ rests K T (record { c = c; A = A; r = q; l = nil; t = tokAt K T n }) (q .items) nil (n + 1)
+      → calls K T c A n ≡ rests K T (record { c = c; A = A; r = q; l = nil; t = tokAt K T n }) (q .items) nil (n + 1)
   unfolding onRow check
   call-in c A n q e j = call-at K T ok c A n ∙ rw (e, j)
 
@@ -63,13 +63,13 @@ module _ (K T : List ℕ) (ok : Sound K T) where
 
   -- a row of no more items may go on
   pub row-on : (F : OpenRow) (k : Tree) (n : ℕ) (q : Row) → contOf sql (F .A) (F .r) (capOf k) (kindAt K n) ≡ some q
-    → judge (F .c) q (node (F .r) (F .l) (F .t) k) (tokAt K T n) nil ≡ 0
-    → rests K T F [] k n ≡ rests K T (record { c = F .c; A = F .A; r = q; l = node (F .r) (F .l) (F .t) k; t = tokAt K T n }) (q .items) nil (n + 1)
+      → judge (F .c) q (node (F .r) (F .l) (F .t) k) (tokAt K T n) nil ≡ 0
+      → rests K T F [] k n ≡ rests K T (record { c = F .c; A = F .A; r = q; l = node (F .r) (F .l) (F .t) k; t = tokAt K T n }) (q .items) nil (n + 1)
   unfolding onRow check
   row-on F k n q e j = end-at K T ok F k n ∙ rw (e, j)
 
   pub row-stop : (F : OpenRow) (k : Tree) (n : ℕ) → contOf sql (F .A) (F .r) (capOf k) (kindAt K n) ≡ none
-    → rests K T F [] k n ≡ got (node (F .r) (F .l) (F .t) k) n (from K T n)
+      → rests K T F [] k n ≡ got (node (F .r) (F .l) (F .t) k) n (from K T n)
   unfolding onRow
   row-stop F k n e = end-at K T ok F k n ∙ rw e
 

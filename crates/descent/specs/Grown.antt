@@ -11,7 +11,7 @@ use Rattle.grammar.specs.Sizes.{WIDTH}
 -- the record numbered `made` is stored if it fits whole
 unfoldable pub put : List ℕ → ℕ → Rec → List ℕ
 put N made (rec c d n s) = choose (leb (made * WIDTH + WIDTH) (length N))
-  (set (set (set (set N (made * WIDTH) c) (made * WIDTH + 1) d) (made * WIDTH + 2) n) (made * WIDTH + 3) s) N
+    (set (set (set (set N (made * WIDTH) c) (made * WIDTH + 1) d) (made * WIDTH + 2) n) (made * WIDTH + 3) s) N
 
 -- these records, from the one numbered `made` on
 unfoldable pub fill : List ℕ → ℕ → List Rec → List ℕ

@@ -6,10 +6,10 @@ use Prim.Native.Nat.{ℕ}
 use lib.Dec.{ltb, eqb}
 use Rattle.theory.specs.Trees.{lit, nt, Row}
 use Rattle.theory.specs.Table.{pick}
-use Rattle.kinds.specs.Kinds.{ID, KWID, INDEXED, JOIN-KW, LP, RP, STAR, AND, NOT, IS, IN, BETWEEN, LIKE-KW, ISNULL, NOTNULL, COLLATE, CASE, WHEN, THEN, END, CAST, AS, EXISTS, SELECT, VALUES, DISTINCT}
+use Rattle.kinds.specs.Kinds.{INDEXED, LP, RP, STAR, AND, NOT, IS, IN, BETWEEN, LIKE-KW, ISNULL, NOTNULL, COLLATE, CASE, WHEN, THEN, END, CAST, AS, EXISTS, SELECT, VALUES, DISTINCT}
 use Rattle.kinds.specs.Strength.{strengthOf, prefixOf}
 use Rattle.kinds.specs.Classes.{isName, literalCode}
-use Rattle.grammar.specs.Classes.{Expr, Name, Query, Paren, Column, Not, Inside?, ColRest?, ColDots?, Base?, Args?, IsNot?, NameRest?, Dots?, Whens?, Else?, E, any}
+use Rattle.grammar.specs.Classes.{Name, Query, Paren, Column, Not, Inside?, ColRest?, ColDots?, Base?, Args?, IsNot?, NameRest?, Dots?, Whens?, Else?, E, any}
 use Rattle.grammar.specs.RowNames.{row-names, row-prefix, row-is, row-like, row-in, row-between, row-not, row-null-test, row-collate, row-literal, row-parens, row-exists, row-case, row-cast}
 use Rattle.grammar.specs.Rows.{strong, binary}
 
@@ -74,19 +74,20 @@ namesRow C = strong 12 row-names (nt (any C) ∷ [])
 unfoldable pub restOf : ℕ → ℕ → ℕ
 restOf C k = pick (eqb C Column) (pick (eqb k INDEXED) ColDots? (λ w. ColRest?)) (λ w. pick (eqb k INDEXED) Dots? (λ w. NameRest?))
 
-unfoldable pub headRow : ℕ → Option Row
-headRow k =
+-- the row with which an expression begins at a kind, in a class that takes one
+unfoldable pub headRow : ℕ → ℕ → Option Row
+headRow C k =
     pick (ltb 0 (prefixOf k)) (some (prefixRow (prefixOf k)))
     (λ w. pick (ltb 0 (literalCode k)) (some literalRow)
-    (λ w. pick (isName k) (some (namesRow (restOf Expr k)))
+    (λ w. pick (isName k) (some (namesRow (restOf C k)))
     (λ w. pick (eqb k LP) (some parensRow)
     (λ w. pick (eqb k CASE) (some caseRow)
     (λ w. pick (eqb k CAST) (some castRow)
     (λ w. pick (eqb k EXISTS) (some existsRow) (λ w. none)))))))
 
--- the kinds at which a class that takes an expression has lines of its own
+-- the kinds at which a class that takes an expression begins with something else
 unfoldable pub own : ℕ → List ℕ
-own C = pick (eqb C Column) (STAR ∷ ID ∷ KWID ∷ INDEXED ∷ JOIN-KW ∷ [])
+own C = pick (eqb C Column) (STAR ∷ [])
     (λ w. pick (eqb C Args?) (STAR ∷ DISTINCT ∷ [])
     (λ w. pick (eqb C Paren) (SELECT ∷ VALUES ∷ [])
     (λ w. pick (eqb C Inside?) (SELECT ∷ VALUES ∷ []) (λ w. []))))

@@ -189,7 +189,7 @@ abbrev pub Every : (Sample → Type 0) → List Sample → Type 0
 Every P [] = Unit {0}
 Every P (s ∷ ss) = P s × Every P ss
 
-every : (ss : List Sample) → allb good ss ≡ true → Every Holds ss
+pub every : (ss : List Sample) → allb good ss ≡ true → Every Holds ss
 unfolding allb
 every [] e = tt
 every (s ∷ ss) e = (sample-holds s (both-l _ (allb good ss) e), every ss (both-r (good s) _ e))

@@ -4,7 +4,7 @@ use mathlib.Core.List.{List, [], _∷_}
 use Prim.Native.Nat.{ℕ}
 use lib.Dec.{eqb}
 use Rattle.theory.specs.Table.{pick}
-use Rattle.kinds.specs.Kinds.{ID, KWID, STRING, INDEXED, JOIN-KW, INTEGER, FLOAT, BLOB, VARIABLE, CTIME-KW, NULL, LP, RP, COMMA, DOT, SEMI, STAR, PLUS, MINUS, SLASH, REM, CONCAT, BITAND, BITOR, LSHIFT, RSHIFT, BITNOT, EQ, NE, LT, LE, GT, GE, AND, OR, NOT, IS, IN, BETWEEN, LIKE-KW, ISNULL, NOTNULL, COLLATE, CASE, WHEN, THEN, ELSE, END, CAST, AS, EXISTS, SELECT, FROM, JOIN, ON, USING, WHERE, GROUP, HAVING, ORDER, ASC, DESC, NULLS, FIRST, LIMIT, OFFSET}
+use Rattle.kinds.specs.Kinds.{ID, KWID, STRING, INDEXED, JOIN-KW, INTEGER, FLOAT, BLOB, VARIABLE, CTIME-KW, NULL, LP, RP, COMMA, SEMI, STAR, PLUS, MINUS, SLASH, REM, CONCAT, BITAND, BITOR, LSHIFT, RSHIFT, BITNOT, EQ, NE, LT, LE, GT, GE, AND, OR, NOT, IS, IN, BETWEEN, LIKE-KW, ISNULL, NOTNULL, COLLATE, CASE, WHEN, THEN, ELSE, END, CAST, AS, EXISTS, SELECT, FROM, JOIN, ON, USING, WHERE, GROUP, HAVING, ORDER, ASC, DESC, NULLS, FIRST, LIMIT, OFFSET}
 use Rattle.grammar.specs.Classes.{eof, Expr, Command, Name, Query, Paren, FirstLast, Rows, Column, StarOrName, Source, SecondName, Not, Semi?, Names?, Exprs?, Inside?, Order?, Terms?, Way?, Nulls?, Limit?, Offset?, Distinct?, Columns?, From?, Where?, Group?, Having?, ColRest?, ColDots?, Joins?, Word2?, Word3?, On?, Dot?, Alias?, Index?, Base?, Args?, IsNot?, NameRest?, Dots?, Whens?, Else?}
 
 pub record Of : Type 0 where
@@ -19,7 +19,7 @@ unfoldable pub follows : List Of
 follows =
     record { of = Command; ks = eof ∷ [] }
     ∷ record { of = Semi?; ks = eof ∷ [] }
-    ∷ record { of = Name; ks = eof ∷ ID ∷ KWID ∷ STRING ∷ INDEXED ∷ JOIN-KW ∷ RP ∷ COMMA ∷ DOT ∷ SEMI ∷ STAR ∷ PLUS ∷ MINUS ∷ SLASH ∷ REM ∷ CONCAT ∷ BITAND ∷ BITOR ∷ LSHIFT ∷ RSHIFT ∷ EQ ∷ NE ∷ LT ∷ LE ∷ GT ∷ GE ∷ AND ∷ OR ∷ NOT ∷ IS ∷ IN ∷ BETWEEN ∷ LIKE-KW ∷ ISNULL ∷ NOTNULL ∷ COLLATE ∷ WHEN ∷ THEN ∷ ELSE ∷ END ∷ AS ∷ FROM ∷ JOIN ∷ ON ∷ USING ∷ WHERE ∷ GROUP ∷ HAVING ∷ ORDER ∷ ASC ∷ DESC ∷ NULLS ∷ LIMIT ∷ OFFSET ∷ [] }
+    ∷ record { of = Name; ks = eof ∷ ID ∷ KWID ∷ STRING ∷ INDEXED ∷ JOIN-KW ∷ RP ∷ COMMA ∷ SEMI ∷ STAR ∷ PLUS ∷ MINUS ∷ SLASH ∷ REM ∷ CONCAT ∷ BITAND ∷ BITOR ∷ LSHIFT ∷ RSHIFT ∷ EQ ∷ NE ∷ LT ∷ LE ∷ GT ∷ GE ∷ AND ∷ OR ∷ NOT ∷ IS ∷ IN ∷ BETWEEN ∷ LIKE-KW ∷ ISNULL ∷ NOTNULL ∷ COLLATE ∷ WHEN ∷ THEN ∷ ELSE ∷ END ∷ AS ∷ FROM ∷ JOIN ∷ ON ∷ USING ∷ WHERE ∷ GROUP ∷ HAVING ∷ ORDER ∷ ASC ∷ DESC ∷ NULLS ∷ LIMIT ∷ OFFSET ∷ [] }
     ∷ record { of = Names?; ks = RP ∷ [] }
     ∷ record { of = Exprs?; ks = eof ∷ RP ∷ SEMI ∷ HAVING ∷ ORDER ∷ LIMIT ∷ [] }
     ∷ record { of = Query; ks = RP ∷ [] }
@@ -43,6 +43,7 @@ follows =
     ∷ record { of = ColRest?; ks = eof ∷ ID ∷ KWID ∷ STRING ∷ RP ∷ COMMA ∷ SEMI ∷ STAR ∷ PLUS ∷ MINUS ∷ SLASH ∷ REM ∷ CONCAT ∷ BITAND ∷ BITOR ∷ LSHIFT ∷ RSHIFT ∷ EQ ∷ NE ∷ LT ∷ LE ∷ GT ∷ GE ∷ AND ∷ OR ∷ NOT ∷ IS ∷ IN ∷ BETWEEN ∷ LIKE-KW ∷ ISNULL ∷ NOTNULL ∷ COLLATE ∷ AS ∷ FROM ∷ WHERE ∷ GROUP ∷ HAVING ∷ ORDER ∷ LIMIT ∷ [] }
     ∷ record { of = ColDots?; ks = eof ∷ ID ∷ KWID ∷ STRING ∷ RP ∷ COMMA ∷ SEMI ∷ STAR ∷ PLUS ∷ MINUS ∷ SLASH ∷ REM ∷ CONCAT ∷ BITAND ∷ BITOR ∷ LSHIFT ∷ RSHIFT ∷ EQ ∷ NE ∷ LT ∷ LE ∷ GT ∷ GE ∷ AND ∷ OR ∷ NOT ∷ IS ∷ IN ∷ BETWEEN ∷ LIKE-KW ∷ ISNULL ∷ NOTNULL ∷ COLLATE ∷ AS ∷ FROM ∷ WHERE ∷ GROUP ∷ HAVING ∷ ORDER ∷ LIMIT ∷ [] }
     ∷ record { of = StarOrName; ks = eof ∷ ID ∷ KWID ∷ STRING ∷ RP ∷ COMMA ∷ SEMI ∷ STAR ∷ PLUS ∷ MINUS ∷ SLASH ∷ REM ∷ CONCAT ∷ BITAND ∷ BITOR ∷ LSHIFT ∷ RSHIFT ∷ EQ ∷ NE ∷ LT ∷ LE ∷ GT ∷ GE ∷ AND ∷ OR ∷ NOT ∷ IS ∷ IN ∷ BETWEEN ∷ LIKE-KW ∷ ISNULL ∷ NOTNULL ∷ COLLATE ∷ AS ∷ FROM ∷ WHERE ∷ GROUP ∷ HAVING ∷ ORDER ∷ LIMIT ∷ [] }
+    ∷ record { of = SecondName; ks = eof ∷ ID ∷ KWID ∷ STRING ∷ JOIN-KW ∷ RP ∷ COMMA ∷ SEMI ∷ STAR ∷ PLUS ∷ MINUS ∷ SLASH ∷ REM ∷ CONCAT ∷ BITAND ∷ BITOR ∷ LSHIFT ∷ RSHIFT ∷ EQ ∷ NE ∷ LT ∷ LE ∷ GT ∷ GE ∷ AND ∷ OR ∷ NOT ∷ IS ∷ IN ∷ BETWEEN ∷ LIKE-KW ∷ ISNULL ∷ NOTNULL ∷ COLLATE ∷ WHEN ∷ THEN ∷ ELSE ∷ END ∷ AS ∷ FROM ∷ JOIN ∷ WHERE ∷ GROUP ∷ HAVING ∷ ORDER ∷ ASC ∷ DESC ∷ NULLS ∷ LIMIT ∷ OFFSET ∷ [] }
     ∷ record { of = Joins?; ks = eof ∷ RP ∷ SEMI ∷ WHERE ∷ GROUP ∷ HAVING ∷ ORDER ∷ LIMIT ∷ [] }
     ∷ record { of = Word2?; ks = JOIN ∷ [] }
     ∷ record { of = Word3?; ks = JOIN ∷ [] }
@@ -57,7 +58,6 @@ follows =
     ∷ record { of = IsNot?; ks = ID ∷ KWID ∷ STRING ∷ INDEXED ∷ JOIN-KW ∷ INTEGER ∷ FLOAT ∷ BLOB ∷ VARIABLE ∷ CTIME-KW ∷ NULL ∷ LP ∷ PLUS ∷ MINUS ∷ BITNOT ∷ CASE ∷ CAST ∷ EXISTS ∷ [] }
     ∷ record { of = Not; ks = eof ∷ ID ∷ KWID ∷ STRING ∷ JOIN-KW ∷ RP ∷ COMMA ∷ SEMI ∷ EQ ∷ NE ∷ AND ∷ OR ∷ NOT ∷ IS ∷ IN ∷ BETWEEN ∷ LIKE-KW ∷ ISNULL ∷ NOTNULL ∷ WHEN ∷ THEN ∷ ELSE ∷ END ∷ AS ∷ FROM ∷ JOIN ∷ WHERE ∷ GROUP ∷ HAVING ∷ ORDER ∷ ASC ∷ DESC ∷ NULLS ∷ LIMIT ∷ OFFSET ∷ [] }
     ∷ record { of = NameRest?; ks = eof ∷ ID ∷ KWID ∷ STRING ∷ JOIN-KW ∷ RP ∷ COMMA ∷ SEMI ∷ STAR ∷ PLUS ∷ MINUS ∷ SLASH ∷ REM ∷ CONCAT ∷ BITAND ∷ BITOR ∷ LSHIFT ∷ RSHIFT ∷ EQ ∷ NE ∷ LT ∷ LE ∷ GT ∷ GE ∷ AND ∷ OR ∷ NOT ∷ IS ∷ IN ∷ BETWEEN ∷ LIKE-KW ∷ ISNULL ∷ NOTNULL ∷ COLLATE ∷ WHEN ∷ THEN ∷ ELSE ∷ END ∷ AS ∷ FROM ∷ JOIN ∷ WHERE ∷ GROUP ∷ HAVING ∷ ORDER ∷ ASC ∷ DESC ∷ NULLS ∷ LIMIT ∷ OFFSET ∷ [] }
-    ∷ record { of = SecondName; ks = eof ∷ ID ∷ KWID ∷ STRING ∷ JOIN-KW ∷ RP ∷ COMMA ∷ SEMI ∷ STAR ∷ PLUS ∷ MINUS ∷ SLASH ∷ REM ∷ CONCAT ∷ BITAND ∷ BITOR ∷ LSHIFT ∷ RSHIFT ∷ EQ ∷ NE ∷ LT ∷ LE ∷ GT ∷ GE ∷ AND ∷ OR ∷ NOT ∷ IS ∷ IN ∷ BETWEEN ∷ LIKE-KW ∷ ISNULL ∷ NOTNULL ∷ COLLATE ∷ WHEN ∷ THEN ∷ ELSE ∷ END ∷ AS ∷ FROM ∷ JOIN ∷ WHERE ∷ GROUP ∷ HAVING ∷ ORDER ∷ ASC ∷ DESC ∷ NULLS ∷ LIMIT ∷ OFFSET ∷ [] }
     ∷ record { of = Dots?; ks = eof ∷ ID ∷ KWID ∷ STRING ∷ JOIN-KW ∷ RP ∷ COMMA ∷ SEMI ∷ STAR ∷ PLUS ∷ MINUS ∷ SLASH ∷ REM ∷ CONCAT ∷ BITAND ∷ BITOR ∷ LSHIFT ∷ RSHIFT ∷ EQ ∷ NE ∷ LT ∷ LE ∷ GT ∷ GE ∷ AND ∷ OR ∷ NOT ∷ IS ∷ IN ∷ BETWEEN ∷ LIKE-KW ∷ ISNULL ∷ NOTNULL ∷ COLLATE ∷ WHEN ∷ THEN ∷ ELSE ∷ END ∷ AS ∷ FROM ∷ JOIN ∷ WHERE ∷ GROUP ∷ HAVING ∷ ORDER ∷ ASC ∷ DESC ∷ NULLS ∷ LIMIT ∷ OFFSET ∷ [] }
     ∷ record { of = Whens?; ks = ELSE ∷ END ∷ [] }
     ∷ record { of = Else?; ks = END ∷ [] }

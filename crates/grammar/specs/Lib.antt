@@ -7,6 +7,7 @@ pub mod Grammar
 -- Levels, open queries, join flags, row lengths:
 pub mod Sizes
 pub mod Limits
+pub mod Levels
 -- The reading:
 pub mod NodeNames
 pub mod Nodes
@@ -16,5 +17,6 @@ pub mod Meaning
 pub mod Writing
 -- What the two calls promise:
 pub mod Promise
--- The sample commands:
+-- The sample commands, and others:
 pub mod Samples
+pub mod Examples
