@@ -5,3 +5,4 @@ pub mod Steps
 pub mod Growing
 pub mod ClassFacts
 pub mod Rules
+pub mod Means

@@ -2,3 +2,4 @@
 pub mod Places
 pub mod Named
 pub mod Grown
+pub mod Walk
