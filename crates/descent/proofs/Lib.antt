@@ -6,3 +6,5 @@ pub mod Growing
 pub mod ClassFacts
 pub mod Rules
 pub mod Means
+pub mod Common
+pub mod Binary

@@ -79,10 +79,14 @@ pub record Takes (A : Nt) (s : ℕ) : Type 0 where
   pub most : s ≤ 11
 
 -- ── results ──
-abbrev pub Told : Walked → (ℕ → ℕ → ℕ → List Rec → Type 0) → (ℕ → ℕ → Type 0) → Type 0
-Told (done a s n rs) P Q = P a s n rs
-Told (stop m p) P Q = Q m p
-Told spent P Q = Unit {0}
+abbrev pub ToldCase : Walked → (ℕ → ℕ → ℕ → List Rec → Type 0) → (ℕ → ℕ → Type 0) → Type 0
+ToldCase (done a s n rs) P Q = P a s n rs
+ToldCase (stop m p) P Q = Q m p
+ToldCase spent P Q = Unit {0}
+
+-- where the walk is done, P; where it stops, Q. (A record, so that P and Q are inferred)
+pub record Told (w : Walked) (P : ℕ → ℕ → ℕ → List Rec → Type 0) (Q : ℕ → ℕ → Type 0) : Type 0 where
+  pub it : ToldCase w P Q
 
 -- lists that were found lent and fit
 pub record Good (K T : List ℕ) : Type 0 where
