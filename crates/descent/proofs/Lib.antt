@@ -8,3 +8,8 @@ pub mod Rules
 pub mod Means
 pub mod Common
 pub mod Binary
+pub mod Ends
+pub mod RowsOfValues
+pub mod Sorting
+pub mod Limiting
+pub mod Whole

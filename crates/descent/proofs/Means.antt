@@ -302,7 +302,7 @@ module _ (K T : List ℕ) where
     → ((κ K T at ≡ SELECT → ⊥) → (κ K T at ≡ VALUES → ⊥) → (enterOf sql A (κ K T at) ≡ none) × (nullOf sql A ≡ false))
     → Told (queryW K T f at c)
         (λ a s m rs. (r : Row) × (k : Tree) × (calls K T c A at ≡ rests K T (record { c = c; A = A; r = r; l = nil; t = tokAt K T at }) is k a)
-          × (isQuery (r .code) ≡ true) × (r .str ≡ 0) × (r .left ≡ 0) × (r .cap ≡ 99) × (capOf k ≡ 99)
+          × (isQuery (r .code) ≡ true) × (r .str ≡ 0) × (r .left ≡ 0) × (r .cap ≡ 99)
           × QueryNode r (tokAt K T at) k rs × ((x : Tree) → QueryNode r (tokAt K T at) (add k x) rs))
         (λ m p. calls K T c A at ≡ refused m p)
 
