@@ -94,16 +94,16 @@ unfolding samples times around good fitting answers found eqAll eqRec eqTok allb
 samples-good = refl
 
 -- ── what the test says of a sample ──
-tokens-back : (ts : List Tok) → tokens (kindsOf ts) (textsOf ts) ≡ ts
+pub tokens-back : (ts : List Tok) → tokens (kindsOf ts) (textsOf ts) ≡ ts
 unfolding tokens
 tokens-back [] = refl
 tokens-back (t ∷ ts) = ap (λ z. t ∷ z) (tokens-back ts)
 
-length-kinds : (ts : List Tok) → length (kindsOf ts) ≡ length ts
+pub length-kinds : (ts : List Tok) → length (kindsOf ts) ≡ length ts
 length-kinds [] = refl
 length-kinds (t ∷ ts) = ap suc (length-kinds ts)
 
-length-texts : (ts : List Tok) → length (textsOf ts) ≡ length ts
+pub length-texts : (ts : List Tok) → length (textsOf ts) ≡ length ts
 length-texts [] = refl
 length-texts (t ∷ ts) = ap suc (length-texts ts)
 

@@ -14,7 +14,7 @@ use Rattle.grammar.specs.Nodes.{Nodes, end, mk}
 use Rattle.grammar.specs.Reading.{choose}
 use Rattle.grammar.specs.Meaning.{meaning}
 
--- a node's writing: its code, its detail, its strength, its tokens, and how many children it has
+-- a node's writing: its code, how tightly it holds, its tokens
 pub record Piece : Type 0 where
   pub code : ℕ
   pub str : ℕ

@@ -1,0 +1,35 @@
+-- Demand 3, in the words of the calls: what the canonical writing of an accepted command must be. Definitions only.
+use mathlib.Core.List.{List}
+use mathlib.Core.Logic.{_↔_}
+use mathlib.Core.Path.{_≡_}
+use Prim.Native.Nat.{ℕ, _≤_}
+use lib.ListN.{length}
+use Rattle.theory.specs.Trees.{Tree}
+use Rattle.grammar.specs.Sizes.{TOKENS}
+use Rattle.grammar.specs.Reading.{reading}
+use Rattle.grammar.specs.Meaning.{meaning}
+use Rattle.grammar.specs.Promise.{Accepted, writingOf, kindsOf, textsOf}
+
+-- what "mean" is of two commands
+abbrev pub SameMeaning : Tree → Tree → Type 0
+SameMeaning x y = meaning (reading x) ≡ meaning (reading y)
+
+-- "equal token for token"
+abbrev pub SameWriting : Tree → Tree → Type 0
+SameWriting x y = writingOf x ≡ writingOf y
+
+-- a command of which demand 3 speaks: accepted, and its writing is a list that may be lent (AS for each bare alias makes it longer)
+pub record Writable (K T : List ℕ) (x : Tree) : Type 0 where
+  pub accepted : Accepted K T x
+  pub short : length (writingOf x) ≤ TOKENS
+
+-- "each writing is accepted, keeps the meaning and is its own canonical writing"
+pub record Canonical (x : Tree) : Type 0 where
+  pub tree : Tree
+  pub accepted : Accepted (kindsOf (writingOf x)) (textsOf (writingOf x)) tree
+  pub meaning : SameMeaning tree x
+  pub own : SameWriting tree x
+
+-- "Two accepted commands mean the same exactly when their canonical writings are equal token for token"
+abbrev pub EqualWritings : Tree → Tree → Type 0
+EqualWritings x y = SameMeaning x y ↔ SameWriting x y

@@ -1,0 +1,1 @@
+//! Demand 3 of the query reader, about definitions alone: no code.
