@@ -7,7 +7,7 @@ use mathlib.Core.Option.{none}
 use mathlib.Core.Path.{_≡_, refl, sym, _∙_, subst}
 use Prim.Native.Nat.{ℕ, _≤_, _<_}
 use borrow.Author.Tests.{le-ltb, eqb-false}
-use lib.Dec.{eqb, leb, T}
+use lib.Dec.{eqb, leb}
 use native.Mathlib.Omega.{arith}
 use Rattle.theory.specs.Trees.{Tok, Nt, Row, Tree, nil, add, node, capOf}
 use Rattle.theory.specs.Table.{pick, both, mem, contOf}
@@ -26,15 +26,15 @@ use Rattle.descent.specs.Places.{kindAt, from, calls, again}
 use Rattle.descent.specs.Named.{own}
 use Rattle.descent.specs.Walk.{Walked, done, stop, spent, bind, onto, exprW}
 use Rattle.descent.specs.Grown.{recs}
-use Rattle.descent.proofs.Steps.{row-stop}
 use Rattle.descent.proofs.TableFacts.{cont-tight, cont-loose, cont-none}
+use Rattle.descent.proofs.Steps.{row-stop}
 use Rattle.descent.proofs.ClassFacts.{E-may}
 use Rattle.descent.proofs.Means.{ExprTree, Exprd, Takes, Told, Good, Stops, ExprOK}
 
 module _ {P P' : ℕ → ℕ → ℕ → List Rec → Type 0} {Q Q' : ℕ → ℕ → Type 0} where
   -- a walk, then what it is handed to
   pub told-bind : (w : Walked) (k : ℕ → ℕ → ℕ → List Rec → Walked) → Told w P Q
-    → ((a s n : ℕ) (rs : List Rec) → P a s n rs → Told (k a s n rs) P' Q') → ((m p : ℕ) → Q m p → Q' m p) → Told (bind w k) P' Q'
+      → ((a s n : ℕ) (rs : List Rec) → P a s n rs → Told (k a s n rs) P' Q') → ((m p : ℕ) → Q m p → Q' m p) → Told (bind w k) P' Q'
   unfolding bind
   told-bind (done a s n rs) k h g b = g a s n rs (h .it)
   told-bind (stop m p) k h g b = record { it = b m p (h .it) }
@@ -42,7 +42,7 @@ module _ {P P' : ℕ → ℕ → ℕ → List Rec → Type 0} {Q Q' : ℕ → �
 
   -- a walk after records that stand before its own
   pub told-onto : (rs : List Rec) (w : Walked) → Told w P Q
-    → ((a s n : ℕ) (qs : List Rec) → P a s n qs → P' a s n (rs ++ qs)) → ((m p : ℕ) → Q m p → Q' m p) → Told (onto rs w) P' Q'
+      → ((a s n : ℕ) (qs : List Rec) → P a s n qs → P' a s n (rs ++ qs)) → ((m p : ℕ) → Q m p → Q' m p) → Told (onto rs w) P' Q'
   unfolding onto
   told-onto rs (done a s n qs) h g b = record { it = g a s n qs (h .it) }
   told-onto rs (stop m p) h g b = record { it = b m p (h .it) }
@@ -50,7 +50,7 @@ module _ {P P' : ℕ → ℕ → ℕ → List Rec → Type 0} {Q Q' : ℕ → �
 
   -- the same walk, other words for it
   pub told-map : (w : Walked) → Told w P Q
-    → ((a s n : ℕ) (qs : List Rec) → P a s n qs → P' a s n qs) → ((m p : ℕ) → Q m p → Q' m p) → Told w P' Q'
+      → ((a s n : ℕ) (qs : List Rec) → P a s n qs → P' a s n qs) → ((m p : ℕ) → Q m p → Q' m p) → Told w P' Q'
   told-map (done a s n qs) h g b = record { it = g a s n qs (h .it) }
   told-map (stop m p) h g b = record { it = b m p (h .it) }
   told-map spent h g b = record { it = tt }
@@ -69,6 +69,10 @@ module _ {P : ℕ → ℕ → ℕ → List Rec → Type 0} {Q : ℕ → ℕ → 
   pub told-stop : (m p : ℕ) → Q m p → Told (stop m p) P Q
   told-stop m p q = record { it = q }
 
+  -- of a walk without fuel nothing is told
+  pub told-spent : Told spent P Q
+  told-spent = record { it = tt }
+
 pub takes-E : (s : ℕ) → 1 ≤ s → s ≤ 11 → Takes (E s) s
 unfolding exprs mem pick
 takes-E s h m = record { among = refl; enough = λ k a b. b; loose = λ k a b. b; column = λ e. absurd (omega (arith, e, h)); other = λ a e. absurd (omega (arith, e)); most = m }
@@ -78,14 +82,14 @@ module _ (K T : List ℕ) (good : Good K T) where
   pub again-got : (c : Around) (A : Nt) (y : Tree) (said n : ℕ) → (e : ExprTree y said) → contOf sql A (e .r) (capOf (e .k)) (kindAt K n) ≡ none → again K T c A y n ≡ got y n (from K T n)
   unfolding again
   again-got c A y said n e o = subst (λ z. again K T c A z n ≡ got z n (from K T n)) (sym (e .is))
-    (row-stop K T (good .sound) (record { c = c; A = A; r = e .r; l = e .l; t = e .t }) (e .k) n o)
+      (row-stop K T (good .sound) (record { c = c; A = A; r = e .r; l = e .l; t = e .t }) (e .k) n o)
 
   pub stops-E : (s said n : ℕ) (r : Row) (m : ℕ) → r .str ≡ said → Stops K T s said n → contOf sql (E s) r m (kindAt K n) ≡ none
   unfolding exprs mem pick
   stops-E s said n r m e (inl z) = cont-none s r m (kindAt K n) (good .bound n) z
   stops-E s said n r m e (inr (inl l)) = by-bool (eqb (strengthOf (kindAt K n)) 0)
-    (λ z. cont-none s r m (kindAt K n) (good .bound n) (eqb-eq (strengthOf (kindAt K n)) 0 z))
-    (λ z. cont-loose (E s) refl (kindAt K n) (good .bound n) (some-strength (strengthOf (kindAt K n)) z) r m l)
+      (λ z. cont-none s r m (kindAt K n) (good .bound n) (eqb-eq (strengthOf (kindAt K n)) 0 z))
+      (λ z. cont-loose (E s) refl (kindAt K n) (good .bound n) (some-strength (strengthOf (kindAt K n)) z) r m l)
     where
       some-strength : (k : ℕ) → eqb k 0 ≡ false → 0 < k
       some-strength k z = let w = eqb-false k 0 z in omega (arith, w)
@@ -93,13 +97,13 @@ module _ (K T : List ℕ) (good : Good K T) where
 
   -- an expression of strength s or more, and no more of it
   pub expr-got : (f : ℕ) → ExprOK K T f → (at : ℕ) (c : Around) (s : ℕ) → 1 ≤ s → s ≤ 11
-    → Told (exprW K T f at c s) (λ a said n rs. (x : Tree) × (calls K T c (E s) at ≡ got x a (from K T a)) × ExprTree x said × (rs ≡ recs (value x))) (λ m p. calls K T c (E s) at ≡ refused m p)
+      → Told (exprW K T f at c s) (λ a said n rs. (x : Tree) × (calls K T c (E s) at ≡ got x a (from K T a)) × ExprTree x said × (rs ≡ recs (value x))) (λ m p. calls K T c (E s) at ≡ refused m p)
   unfolding own mem pick
   expr-got f ok at c s h m = told-map (exprW K T f at c s) (ok at c s (E s) (takes-E s h m) refl (λ z. 0≢1 (sym (E-may s h) ∙ z)))
-    (λ a said n rs p. one a said n rs p) (λ m p e. e)
+      (λ a said n rs p. one a said n rs p) (λ m p e. e)
     where
       one : (a said n : ℕ) (rs : List Rec) → (y : Tree) × (calls K T c (E s) at ≡ again K T c (E s) y a) × Exprd y said s × Stops K T s said a × (rs ≡ recs (value y))
-        → (x : Tree) × (calls K T c (E s) at ≡ got x a (from K T a)) × ExprTree x said × (rs ≡ recs (value x))
+          → (x : Tree) × (calls K T c (E s) at ≡ got x a (from K T a)) × ExprTree x said × (rs ≡ recs (value x))
       one a said n rs (y, e, inl t, st, r) = (y, e ∙ again-got c (E s) y said a t (stops-E s said a (t .r) (capOf (t .k)) (t .str) st), t, r)
       one a said n rs (y, e, inr z, st, r) = absurd (omega (arith, z .1, h))
 

@@ -6,7 +6,7 @@ use mathlib.Core.Option.{none}
 use mathlib.Core.Path.{_≡_, refl, sym, ap, _∙_}
 use Prim.Native.Nat.{ℕ, _+_, _≤_, _<_, zero, suc}
 use borrow.Author.Tests.{ne-eqb, ltb-true, ltb-false}
-use lib.Dec.{ltb, eqb, T}
+use lib.Dec.{ltb, eqb}
 use lib.ListN.{length, drop-of-length-le, List·getD-eq-default}
 use native.Mathlib.Omega.{arith}
 use Rattle.theory.specs.Trees.{Nt, Item, lit, nt, Row, Tree, nil, add, leaf, node, capOf}
@@ -122,3 +122,9 @@ module _ (K T : List ℕ) (ok : Sound K T) where
       (λ h. let i = ltb-true n (length K) h in rw (from-in K T n (ok .equal) i) (rest-end G Around under judge (F .c) (F .A) (F .r) (F .l) (F .t) k n (tokAt K T n) (from K T (n + 1))))
       (λ h. let i = ltb-false n (length K) h in rw (from-end K T n (ok .equal) i, kind-end K n i, cont-end (F .A) (F .r) (capOf k))
       (rest-end-end G Around under judge (F .c) (F .A) (F .r) (F .l) (F .t) k n ∙ rw (the-end, cont-end (F .A) (F .r) (capOf k))))
+
+-- the list is over where the kind is the end's
+pub at-end : (K T : List ℕ) → Sound K T → (n : ℕ) → kindAt K n ≡ 0 → from K T n ≡ []
+at-end K T ok n e = by-bool (ltb n (length K))
+    (λ h. absurd (let i = ok .some n (ltb-true n (length K) h) in omega (arith, i, e)))
+    (λ h. from-end K T n (ok .equal) (ltb-false n (length K) h))

@@ -1,3 +1,4 @@
+-- The table and its rows, as recursive descent meets them:
 pub mod Equations
 pub mod SameRow
 pub mod TableFacts
@@ -5,11 +6,58 @@ pub mod Steps
 pub mod Growing
 pub mod ClassFacts
 pub mod Rules
+-- What each part of the walk means, and what the proofs share:
 pub mod Means
 pub mod Common
+pub mod NoTails
+pub mod Sides
+pub mod Strong
+pub mod PlainClasses
+pub mod Heads
+pub mod NameRead
+pub mod Tails
+pub mod Values
+pub mod ListLaw
+pub mod ExprIn
+pub mod OperandRow
+pub mod NodeRecords
+pub mod Loops
+-- Expressions:
+pub mod Names
+pub mod NamesOfColumn
+pub mod Exprs
+pub mod Hosts
+pub mod Parens
+pub mod Clauses
+pub mod Whens
+pub mod CaseExpr
+pub mod CastExpr
+pub mod Calls
+pub mod Prefixes
+pub mod Compounds
+pub mod Leaves
+pub mod Expression
+pub mod GoingOn
+pub mod Made
 pub mod Binary
-pub mod Ends
+pub mod Inside
+pub mod Negated
+pub mod Operators
+-- Queries:
+pub mod Columns
+pub mod Alias
+pub mod TableSource
+pub mod OneSource
+pub mod OnUsing
+pub mod JoinWords
+pub mod Joins
+pub mod FromClause
+pub mod SelectClauses
+pub mod Select
 pub mod RowsOfValues
 pub mod Sorting
 pub mod Limiting
+pub mod Query
+-- The whole:
+pub mod Everything
 pub mod Whole

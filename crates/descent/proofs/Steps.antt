@@ -7,7 +7,6 @@ use mathlib.Core.Option.{some, none}
 use mathlib.Core.Path.{_≡_, refl, sym, _∙_}
 use Prim.Native.Nat.{ℕ, _+_, _<_, suc}
 use borrow.Author.Tests.{ne-eqb}
-use lib.Dec.{T}
 use Rattle.theory.specs.Trees.{Nt, Item, lit, nt, Row, Tree, nil, add, leaf, node, capOf}
 use Rattle.theory.specs.Table.{onRow, enterOf, contOf, nullOf}
 use Rattle.theory.specs.Outcome.{got, refused}

@@ -78,13 +78,13 @@ module _ (K T : List ℕ) where
   -- after the name at the place before: DOT name [DOT name], or nothing; in a column (s = 0) DOT STAR
   unfoldable pub dotsW : ℕ → Walked
   dotsW at = bind (nameW (at + 1)) (λ a s n rs. choose (eqb (κ a) DOT)
-    (bind (nameW (a + 1)) (λ b s n qs. done b 12 0 (rs ++ (qs ++ (rec 31 0 3 4 ∷ [])))))
-    (done a 12 0 (rs ++ (rec 31 0 2 3 ∷ []))))
+      (bind (nameW (a + 1)) (λ b s n qs. done b 12 0 (rs ++ (qs ++ (rec 31 0 3 4 ∷ [])))))
+      (done a 12 0 (rs ++ (rec 31 0 2 3 ∷ []))))
 
   unfoldable pub dottedW : ℕ → ℕ → Walked
   dottedW at s = choose (eqb (κ at) DOT)
-    (choose (both (eqb s 0) (eqb (κ (at + 1)) STAR)) (done (at + 2) 0 0 (rec 6 0 1 2 ∷ [])) (dotsW at))
-    (done at 12 0 (rec 31 0 1 2 ∷ []))
+      (choose (both (eqb s 0) (eqb (κ (at + 1)) STAR)) (done (at + 2) 0 0 (rec 6 0 1 2 ∷ [])) (dotsW at))
+      (done at 12 0 (rec 31 0 1 2 ∷ []))
 
   -- RP of a call's arguments: n of them, with these records
   unfoldable pub calledW : ℕ → ℕ → ℕ → List Rec → Walked
@@ -95,14 +95,14 @@ module _ (K T : List ℕ) where
 
   unfoldable pub aliasW : ℕ → Walked
   aliasW at = choose (eqb (κ at) AS) (bind (nameW (at + 1)) (λ a s n rs. done a 1 0 rs))
-    (choose (isBareAlias (κ at)) (done (at + 1) 2 0 (nameRec at ∷ [])) (done at 0 0 (missing ∷ [])))
+      (choose (isBareAlias (κ at)) (done (at + 1) 2 0 (nameRec at ∷ [])) (done at 0 0 (missing ∷ [])))
 
   unfoldable pub qualifiedW : ℕ → Walked
   qualifiedW at = choose (eqb (κ (at + 1)) DOT) (bind (nameW at) (λ a s n rs. onto rs (nameW (a + 1)))) (onto (missing ∷ []) (nameW at))
 
   unfoldable pub indexW : ℕ → Walked
   indexW at = choose (eqb (κ at) INDEXED) (choose (eqb (κ (at + 1)) BY) (bind (nameW (at + 2)) (λ a s n rs. done a 1 0 rs)) (wrongAt (at + 1)))
-    (choose (eqb (κ at) NOT) (choose (eqb (κ (at + 1)) INDEXED) (done (at + 2) 2 0 (missing ∷ [])) (wrongAt (at + 1))) (done at 0 0 (missing ∷ [])))
+      (choose (eqb (κ at) NOT) (choose (eqb (κ (at + 1)) INDEXED) (done (at + 2) 2 0 (missing ∷ [])) (wrongAt (at + 1))) (done at 0 0 (missing ∷ [])))
 
   unfoldable pub tableW : ℕ → Walked
   tableW at = bind (qualifiedW at) (λ a s n rs. bind (aliasW a) (λ b mode n qs. bind (indexW b) (λ d by n ps. done d 0 0 (over 12 (mode + 4 * by) 4 0 (rs ++ (qs ++ ps))))))
@@ -113,8 +113,8 @@ module _ (K T : List ℕ) where
 
   unfoldable pub nullsW : ℕ → ℕ → Walked
   nullsW at detail = choose (eqb (κ at) NULLS)
-    (choose (eqb (κ (at + 1)) FIRST) (done (at + 2) (detail + 4) 0 []) (choose (eqb (κ (at + 1)) LAST) (done (at + 2) (detail + 8) 0 []) (wrongAt (at + 1))))
-    (done at detail 0 [])
+      (choose (eqb (κ (at + 1)) FIRST) (done (at + 2) (detail + 4) 0 []) (choose (eqb (κ (at + 1)) LAST) (done (at + 2) (detail + 8) 0 []) (wrongAt (at + 1))))
+      (done at detail 0 [])
 
   unfoldable pub wayW : ℕ → Walked
   wayW at = choose (eqb (κ at) ASC) (nullsW (at + 1) 1) (choose (eqb (κ at) DESC) (nullsW (at + 1) 2) (nullsW at 0))
@@ -123,7 +123,7 @@ module _ (K T : List ℕ) where
   unfoldable pub joinW : ℕ → ℕ → ℕ → Walked
   joinW zero at flags = choose (eqb (κ at) JOIN) (choose (legal flags) (done (at + 1) (64 + flags) 0 []) (stop 7 at)) (wrongAt at)
   joinW (suc more) at flags = choose (eqb (κ at) JOIN) (choose (legal flags) (done (at + 1) (64 + flags) 0 []) (stop 7 at))
-    (choose (eqb (κ at) JOIN-KW) (joinW more (at + 1) (united flags (flagsOf (τ at)))) (wrongAt at))
+      (choose (eqb (κ at) JOIN-KW) (joinW more (at + 1) (united flags (flagsOf (τ at)))) (wrongAt at))
 
   unfoldable pub joinedW : ℕ → Walked
   joinedW at = choose (eqb (κ at) COMMA) (done (at + 1) 0 0 []) (joinW 3 at NO-FLAGS)
@@ -145,51 +145,51 @@ module _ (K T : List ℕ) where
     pub exprW : ℕ → ℕ → Around → ℕ → Walked
     exprW zero at c s = spent
     exprW (suc f) at c s = choose (ltb LEVELS (c .level)) (tooDeepW at s)
-      (bind (choose (both (leb ID (κ at)) (leb (κ at) NULL)) (leafW f at c s) (compoundW f at c s))
+        (bind (choose (both (leb ID (κ at)) (leb (κ at) NULL)) (leafW f at c s) (compoundW f at c s))
         (λ a left n rs. onto rs (opsW f a c s left (length rs))))
 
     pub leafW : ℕ → ℕ → Around → ℕ → Walked
     leafW zero at c s = spent
     leafW (suc f) at c s = choose (ltb 0 (literalCode (κ at))) (done (at + 1) 12 0 (rec (literalCode (κ at)) (choose (eqb (κ at) NULL) 0 (τ at)) 0 1 ∷ []))
-      (choose (both (eqb (κ (at + 1)) LP) (headsCall (κ at))) (onto (nameRec at ∷ []) (callW f (at + 2) (deeper c))) (onto (nameRec at ∷ []) (dottedW (at + 1) s)))
+        (choose (both (eqb (κ (at + 1)) LP) (headsCall (κ at))) (onto (nameRec at ∷ []) (callW f (at + 2) (deeper c))) (onto (nameRec at ∷ []) (dottedW (at + 1) s)))
 
     pub compoundW : ℕ → ℕ → Around → ℕ → Walked
     compoundW zero at c s = spent
     compoundW (suc f) at c s =
-      choose (eqb (κ at) LP) (parenW f (at + 1) (deeper c))
-      (choose (eqb (κ at) CASE) (caseW f (at + 1) (deeper c))
-      (choose (eqb (κ at) CAST) (castW f (at + 1) (deeper c))
-      (choose (eqb (κ at) EXISTS) (existsW f (at + 1) (deeper c))
-      (choose (ltb 0 (prefixOf (κ at))) (prefixW f at c s) (wrongAt at)))))
+        choose (eqb (κ at) LP) (parenW f (at + 1) (deeper c))
+        (choose (eqb (κ at) CASE) (caseW f (at + 1) (deeper c))
+        (choose (eqb (κ at) CAST) (castW f (at + 1) (deeper c))
+        (choose (eqb (κ at) EXISTS) (existsW f (at + 1) (deeper c))
+        (choose (ltb 0 (prefixOf (κ at))) (prefixW f at c s) (wrongAt at)))))
 
     -- the operators that go on from an operand of strength `left`, of `pre` records
     pub opsW : ℕ → ℕ → Around → ℕ → ℕ → ℕ → Walked
     opsW zero at c s left pre = spent
     opsW (suc f) at c s left pre =
-      choose (eqb (strengthOf (κ at)) 0) (done at left 0 [])
-      (choose (ltb (strengthOf (κ at)) s) (done at left 0 [])
-      (choose (ltb left (strengthOf (κ at))) (done at left 0 [])
-      (bind (operatorW f at (deeper c) (strengthOf (κ at) + 1) pre) (λ a x n rs. onto rs (opsW f a c s (strengthOf (κ at)) (pre + length rs))))))
+        choose (eqb (strengthOf (κ at)) 0) (done at left 0 [])
+        (choose (ltb (strengthOf (κ at)) s) (done at left 0 [])
+        (choose (ltb left (strengthOf (κ at))) (done at left 0 [])
+        (bind (operatorW f at (deeper c) (strengthOf (κ at) + 1) pre) (λ a x n rs. onto rs (opsW f a c s (strengthOf (κ at)) (pre + length rs))))))
 
     pub operatorW : ℕ → ℕ → Around → ℕ → ℕ → Walked
     operatorW zero at c s pre = spent
     operatorW (suc f) at c s pre =
-      choose (ltb (κ at) NOT) (binaryW f (at + 1) c s (κ at) pre)
-      (choose (eqb (κ at) NOT) (negatedW f (at + 1) c s pre)
-      (choose (eqb (κ at) IN) (insideW f (at + 1) c 0 pre)
-      (choose (eqb (κ at) BETWEEN) (betweenW f (at + 1) c s 0 pre)
-      (choose (eqb (κ at) LIKE-KW) (binaryW f (at + 1) c s (200 + τ at) pre)
-      (choose (eqb (κ at) IS) (choose (eqb (κ (at + 1)) NOT) (binaryW f (at + 2) c s 137 pre) (binaryW f (at + 1) c s 37 pre))
-      (choose (eqb (κ at) COLLATE) (collateW (at + 1) pre) (done (at + 1) 4 0 (rec 40 (κ at) 1 (pre + 1) ∷ []))))))))
+        choose (ltb (κ at) NOT) (binaryW f (at + 1) c s (κ at) pre)
+        (choose (eqb (κ at) NOT) (negatedW f (at + 1) c s pre)
+        (choose (eqb (κ at) IN) (insideW f (at + 1) c 0 pre)
+        (choose (eqb (κ at) BETWEEN) (betweenW f (at + 1) c s 0 pre)
+        (choose (eqb (κ at) LIKE-KW) (binaryW f (at + 1) c s (200 + τ at) pre)
+        (choose (eqb (κ at) IS) (choose (eqb (κ (at + 1)) NOT) (binaryW f (at + 2) c s 137 pre) (binaryW f (at + 1) c s 37 pre))
+        (choose (eqb (κ at) COLLATE) (collateW (at + 1) pre) (done (at + 1) 4 0 (rec 40 (κ at) 1 (pre + 1) ∷ []))))))))
 
     -- after NOT that follows an operand
     pub negatedW : ℕ → ℕ → Around → ℕ → ℕ → Walked
     negatedW zero at c s pre = spent
     negatedW (suc f) at c s pre =
-      choose (eqb (κ at) IN) (insideW f (at + 1) c 1 pre)
-      (choose (eqb (κ at) BETWEEN) (betweenW f (at + 1) c s 1 pre)
-      (choose (eqb (κ at) LIKE-KW) (binaryW f (at + 1) c s (300 + τ at) pre)
-      (choose (eqb (κ at) NULL) (done (at + 1) 4 0 (rec 40 NOTNULL 1 (pre + 1) ∷ [])) (wrongAt at))))
+        choose (eqb (κ at) IN) (insideW f (at + 1) c 1 pre)
+        (choose (eqb (κ at) BETWEEN) (betweenW f (at + 1) c s 1 pre)
+        (choose (eqb (κ at) LIKE-KW) (binaryW f (at + 1) c s (300 + τ at) pre)
+        (choose (eqb (κ at) NULL) (done (at + 1) 4 0 (rec 40 NOTNULL 1 (pre + 1) ∷ [])) (wrongAt at))))
 
     pub binaryW : ℕ → ℕ → Around → ℕ → ℕ → ℕ → Walked
     binaryW zero at c s detail pre = spent
@@ -208,11 +208,11 @@ module _ (K T : List ℕ) where
     pub insideW : ℕ → ℕ → Around → ℕ → ℕ → Walked
     insideW zero at c not pre = spent
     insideW (suc f) at c not pre = choose (eqb (κ at) LP)
-      (choose (both (leb SELECT (κ (at + 1))) (leb (κ (at + 1)) VALUES))
+        (choose (both (leb SELECT (κ (at + 1))) (leb (κ (at + 1)) VALUES))
         (bind (queryW f (at + 1) c) (λ a x n rs. endedW a 42 not pre rs))
-      (choose (eqb (κ (at + 1)) RP) (endedW (at + 1) 41 not pre (rec 4 0 0 1 ∷ []))
+        (choose (eqb (κ (at + 1)) RP) (endedW (at + 1) 41 not pre (rec 4 0 0 1 ∷ []))
         (bind (listW f (at + 1) c 0) (λ a x n rs. endedW a 41 not pre (over 4 0 n 0 rs)))))
-      (wrongAt at)
+        (wrongAt at)
 
     -- expressions parted by COMMA: n before them
     pub listW : ℕ → ℕ → Around → ℕ → Walked
@@ -222,21 +222,21 @@ module _ (K T : List ℕ) where
     pub prefixW : ℕ → ℕ → Around → ℕ → Walked
     prefixW zero at c s = spent
     prefixW (suc f) at c s = choose (ltb (prefixOf (κ at)) s) (wrongAt at)
-      (bind (exprW f (at + 1) (deeper c) (prefixOf (κ at))) (λ a x n rs. done a (prefixOf (κ at)) 0 (over 38 (κ at) 1 0 rs)))
+        (bind (exprW f (at + 1) (deeper c) (prefixOf (κ at))) (λ a x n rs. done a (prefixOf (κ at)) 0 (over 38 (κ at) 1 0 rs)))
 
     -- after LP of a call
     pub callW : ℕ → ℕ → Around → Walked
     callW zero at c = spent
     callW (suc f) at c = choose (eqb (κ at) STAR) (calledW (at + 1) 2 0 [])
-      (choose (eqb (κ at) RP) (calledW at 0 0 [])
-      (choose (eqb (κ at) DISTINCT) (bind (listW f (at + 1) c 0) (λ a x n rs. calledW a 1 n rs))
+        (choose (eqb (κ at) RP) (calledW at 0 0 [])
+        (choose (eqb (κ at) DISTINCT) (bind (listW f (at + 1) c 0) (λ a x n rs. calledW a 1 n rs))
         (bind (listW f at c 0) (λ a x n rs. calledW a 0 n rs))))
 
     -- after LP: ( query ) or ( expressions )
     pub parenW : ℕ → ℕ → Around → Walked
     parenW zero at c = spent
     parenW (suc f) at c = choose (both (leb SELECT (κ at)) (leb (κ at) VALUES)) (bracketedW f at c 34)
-      (bind (listW f at c 0) (λ a x n rs. onto rs (closeW a 33 0 n (length rs))))
+        (bind (listW f at c 0) (λ a x n rs. onto rs (closeW a 33 0 n (length rs))))
 
     pub bracketedW : ℕ → ℕ → Around → ℕ → Walked
     bracketedW zero at c code = spent
@@ -249,7 +249,7 @@ module _ (K T : List ℕ) where
     pub caseW : ℕ → ℕ → Around → Walked
     caseW zero at c = spent
     caseW (suc f) at c = bind (baseW f at c) (λ a x n rs. bind (whensW f a c 0) (λ b x m qs. bind (clauseW f b ELSE c) (λ d x n ps.
-      choose (eqb (κ d) END) (done (d + 1) 12 0 (over 36 0 (m + 2) 0 (rs ++ (qs ++ ps)))) (wrongAt d))))
+        choose (eqb (κ d) END) (done (d + 1) 12 0 (over 36 0 (m + 2) 0 (rs ++ (qs ++ ps)))) (wrongAt d))))
 
     pub baseW : ℕ → ℕ → Around → Walked
     baseW zero at c = spent
@@ -259,12 +259,12 @@ module _ (K T : List ℕ) where
     pub whensW : ℕ → ℕ → Around → ℕ → Walked
     whensW zero at c n = spent
     whensW (suc f) at c n = bind (afterW f at WHEN c 1) (λ a x m rs. bind (afterW f a THEN c 1) (λ b x m qs.
-      choose (eqb (κ b) WHEN) (onto (rs ++ qs) (whensW f b c (n + 2))) (done b 0 (n + 2) (rs ++ qs))))
+        choose (eqb (κ b) WHEN) (onto (rs ++ qs) (whensW f b c (n + 2))) (done b 0 (n + 2) (rs ++ qs))))
 
     pub castW : ℕ → ℕ → Around → Walked
     castW zero at c = spent
     castW (suc f) at c = bind (afterW f at LP c 1) (λ a x n rs. choose (eqb (κ a) AS)
-      (bind (nameW (a + 1)) (λ b x n qs. onto (rs ++ qs) (closeW b 37 0 2 (length (rs ++ qs))))) (wrongAt a))
+        (bind (nameW (a + 1)) (λ b x n qs. onto (rs ++ qs) (closeW b 37 0 2 (length (rs ++ qs))))) (wrongAt a))
 
     pub queryW : ℕ → ℕ → Around → Walked
     queryW zero at c = spent
@@ -273,7 +273,7 @@ module _ (K T : List ℕ) where
     pub bodyW : ℕ → ℕ → Around → Walked
     bodyW zero at c = spent
     bodyW (suc f) at c = choose (eqb (κ at) SELECT) (choose (leb QUERIES (c .opened)) (stop 6 at) (selectW f (at + 1) (opening c)))
-      (choose (eqb (κ at) VALUES) (choose (leb QUERIES (c .opened)) (stop 6 at) (bind (valuesW f (at + 1) (opening c) 0 0) (λ a x n rs. done a 0 0 (over 3 0 n 0 rs)))) (wrongAt at))
+        (choose (eqb (κ at) VALUES) (choose (leb QUERIES (c .opened)) (stop 6 at) (bind (valuesW f (at + 1) (opening c) 0 0) (λ a x n rs. done a 0 0 (over 3 0 n 0 rs)))) (wrongAt at))
 
     -- ORDER BY and LIMIT
     pub tailW : ℕ → ℕ → Around → Walked
@@ -288,7 +288,7 @@ module _ (K T : List ℕ) where
     pub rowW : ℕ → ℕ → Around → ℕ → Walked
     rowW zero at c width = spent
     rowW (suc f) at c width = choose (eqb (κ at) LP) (bind (listW f (at + 1) c 0) (λ a x n rs. choose (eqb (κ a) RP)
-      (choose (both (ltb 0 width) (notB (eqb n width))) (stop 8 a) (done (a + 1) 0 n (over 4 0 n 0 rs))) (wrongAt a))) (wrongAt at)
+        (choose (both (ltb 0 width) (notB (eqb n width))) (stop 8 a) (done (a + 1) 0 n (over 4 0 n 0 rs))) (wrongAt a))) (wrongAt at)
 
     pub selectW : ℕ → ℕ → Around → Walked
     selectW zero at c = spent
@@ -310,7 +310,7 @@ module _ (K T : List ℕ) where
     pub groupW : ℕ → ℕ → Around → Walked
     groupW zero at c = spent
     groupW (suc f) at c = choose (eqb (κ at) GROUP) (choose (eqb (κ (at + 1)) BY) (bind (listW f (at + 2) c 0) (λ a x n rs. onto (over 4 0 n 0 rs) (clauseW f a HAVING c))) (wrongAt (at + 1)))
-      (choose (eqb (κ at) HAVING) (onto (rec 4 0 0 1 ∷ []) (exprW f (at + 1) c 1)) (done at 0 0 (missing ∷ missing ∷ [])))
+        (choose (eqb (κ at) HAVING) (onto (rec 4 0 0 1 ∷ []) (exprW f (at + 1) c 1)) (done at 0 0 (missing ∷ missing ∷ [])))
 
     -- columns: n before them
     pub columnsW : ℕ → ℕ → Around → ℕ → Walked
@@ -320,24 +320,24 @@ module _ (K T : List ℕ) where
     pub columnW : ℕ → ℕ → Around → Walked
     columnW zero at c = spent
     columnW (suc f) at c = choose (eqb (κ at) STAR) (done (at + 1) 0 0 (rec 5 0 0 1 ∷ []))
-      (bind (exprW f at c 0) (λ a said n rs. choose (eqb said 0) (done a 0 0 rs) (bind (aliasW a) (λ b mode n qs. done b 0 0 (over 7 mode 2 0 (rs ++ qs))))))
+        (bind (exprW f at c 0) (λ a said n rs. choose (eqb said 0) (done a 0 0 rs) (bind (aliasW a) (λ b mode n qs. done b 0 0 (over 7 mode 2 0 (rs ++ qs))))))
 
     pub fromW : ℕ → ℕ → Around → Walked
     fromW zero at c = spent
     fromW (suc f) at c = choose (eqb (κ at) FROM) (bind (sourceW f (at + 1) c) (λ a x n rs. bind (joinsW f a c 0) (λ b x m qs. done b 0 0 (over 8 0 (m + 1) 0 (rs ++ qs)))))
-      (done at 0 0 (missing ∷ []))
+        (done at 0 0 (missing ∷ []))
 
     -- joins: n before them
     pub joinsW : ℕ → ℕ → Around → ℕ → Walked
     joinsW zero at c n = spent
     joinsW (suc f) at c n = choose (mem (κ at) (COMMA ∷ JOIN ∷ JOIN-KW ∷ []))
-      (bind (joinedW at) (λ a detail x os. bind (sourceW f a c) (λ b x y rs. bind (onW f b c) (λ d x y qs. onto (over 9 detail 2 0 (rs ++ qs)) (joinsW f d c (n + 1))))))
-      (done at 0 n [])
+        (bind (joinedW at) (λ a detail x os. bind (sourceW f a c) (λ b x y rs. bind (onW f b c) (λ d x y qs. onto (over 9 detail 2 0 (rs ++ qs)) (joinsW f d c (n + 1))))))
+        (done at 0 n [])
 
     pub onW : ℕ → ℕ → Around → Walked
     onW zero at c = spent
     onW (suc f) at c = choose (eqb (κ at) ON) (bind (exprW f (at + 1) c 1) (λ a x n rs. done a 0 0 (over 10 0 1 0 rs)))
-      (choose (eqb (κ at) USING) (usingW f (at + 1)) (done at 0 0 (missing ∷ [])))
+        (choose (eqb (κ at) USING) (usingW f (at + 1)) (done at 0 0 (missing ∷ [])))
 
     pub sourceW : ℕ → ℕ → Around → Walked
     sourceW zero at c = spent
@@ -352,19 +352,19 @@ module _ (K T : List ℕ) where
     pub termsW : ℕ → ℕ → Around → ℕ → Walked
     termsW zero at c n = spent
     termsW (suc f) at c n = bind (exprW f at c 1) (λ a x m rs. bind (wayW a) (λ b way m os.
-      choose (eqb (κ b) COMMA) (onto (over 14 way 1 0 rs) (termsW f (b + 1) c (n + 1))) (done b 0 (n + 1) (over 14 way 1 0 rs))))
+        choose (eqb (κ b) COMMA) (onto (over 14 way 1 0 rs) (termsW f (b + 1) c (n + 1))) (done b 0 (n + 1) (over 14 way 1 0 rs))))
 
     -- limit and offset; LIMIT a , b has b's records before a's
     pub limitW : ℕ → ℕ → Around → Walked
     limitW zero at c = spent
     limitW (suc f) at c = choose (eqb (κ at) LIMIT)
-      (bind (exprW f (at + 1) c 1) (λ a x n rs.
+        (bind (exprW f (at + 1) c 1) (λ a x n rs.
         choose (eqb (κ a) OFFSET) (onto rs (exprW f (a + 1) c 1))
         (choose (eqb (κ a) COMMA) (bind (exprW f (a + 1) c 1) (λ b x n qs. done b 0 0 (qs ++ rs))) (done a 0 0 (rs ++ (missing ∷ []))))))
-      (done at 0 0 (missing ∷ missing ∷ []))
+        (done at 0 0 (missing ∷ missing ∷ []))
 
   -- a query, then the end of the list or one SEMI and the end
   unfoldable pub commandW : ℕ → Walked
   commandW f = bind (queryW f 0 outer) (λ a x n rs.
-    choose (eqb (κ a) 0) (done a 0 0 rs)
-    (choose (eqb (κ a) SEMI) (choose (eqb (κ (a + 1)) 0) (done (a + 1) 0 0 rs) (wrongAt (a + 1))) (wrongAt a)))
+      choose (eqb (κ a) 0) (done a 0 0 rs)
+      (choose (eqb (κ a) SEMI) (choose (eqb (κ (a + 1)) 0) (done (a + 1) 0 0 rs) (wrongAt (a + 1))) (wrongAt a)))

@@ -1,0 +1,229 @@
+-- An operator after an operand, by its row: binary, NOT .., IN, BETWEEN, LIKE, IS [NOT], COLLATE, ISNULL and NOTNULL. Assumes nothing.
+use mathlib.Core.Bool.{true, false, Bool}
+use mathlib.Core.List.{List, [], _∷_}
+use mathlib.Core.Path.{_≡_, refl, sym, ap, _∙_, subst}
+use Prim.Native.Nat.{ℕ, _+_, _≤_, _<_, suc}
+use borrow.Author.Tests.{ne-eqb, ltb-true, eqb-false}
+use lib.Dec.{ltb, eqb}
+use lib.ListN.{getD}
+use native.Mathlib.Omega.{arith}
+use Rattle.theory.specs.Trees.{Tok, nt, Row, Tree, nil, add, leaf, node, capOf}
+use Rattle.theory.specs.Table.{pick, both, mem}
+use Rattle.theory.specs.Outcome.{got}
+use Rattle.theory.proofs.Cases.{pick-inv, 0≢1, eqb-eq}
+use Rattle.kinds.specs.Kinds.{NOT, IS, IN, BETWEEN, LIKE-KW, ISNULL, NOTNULL, COLLATE}
+use Rattle.kinds.specs.Strength.{strengthOf}
+use Rattle.grammar.specs.Classes.{Name, IsNot?, E, any}
+use Rattle.grammar.specs.RowNames.{row-is-not}
+use Rattle.grammar.specs.NodeNames.{node-binary, node-null-test, node-in-list, node-in-query, node-between, node-collate}
+use Rattle.grammar.specs.Rows.{part, binary}
+use Rattle.grammar.specs.Limits.{Around, isQuery, below}
+use Rattle.grammar.specs.Nodes.{end, count, beside, rec, records}
+use Rattle.grammar.specs.Reading.{Val, empty, side, one, choose, name, isQueryVal, inside, rules, ruled, valueOf, value, _#_}
+use Rattle.descent.specs.Places.{kindAt, tokAt, from, OpenRow, calls, rests}
+use Rattle.descent.specs.Named.{isRow, likeRow, inRow, betweenRow, notRow, nullTestRow, collateRow, opRow}
+use Rattle.descent.specs.Walk.{Walked, done, over, nameRec, collateW, exprW, negatedW, binaryW, betweenW, insideW}
+use Rattle.descent.proofs.SameRow.{eqItems, eqRow, same-row, below?, throughout}
+use Rattle.descent.proofs.TableFacts.{BOUND}
+use Rattle.descent.proofs.Steps.{nt-got, nt-refused, call-absent}
+use Rattle.descent.proofs.Growing.{records-beside}
+use Rattle.descent.proofs.ClassFacts.{out, none-of-1, firsts-IsNot, IsNot-at-NOT, IsNot-may}
+use Rattle.descent.proofs.Means.{Good, Goes, OperatorOK, NegatedOK, BinaryOK, BetweenOK, InsideOK}
+use Rattle.descent.proofs.Common.{told-map, told-choose, told-done}
+use Rattle.descent.proofs.NoTails.{plainClasses}
+use Rattle.descent.proofs.Sides.{single-count, beside-end}
+use Rattle.descent.proofs.Strong.{strength-most, expr-cap}
+use Rattle.descent.proofs.PlainClasses.{begin, whole}
+use Rattle.descent.proofs.NameRead.{nameTree, name-got, name-wrong, told-name}
+use Rattle.descent.proofs.Made.{made, binary-goes}
+use Rattle.descent.proofs.Negated.{bounds-side, bounds-count}
+
+-- ── the rows by their kinds ──
+op-binary : (k : ℕ) → k < NOT → opRow k ≡ binary (strengthOf k)
+unfolding opRow pick
+op-binary k h = rw (
+  ne-eqb k IS (λ e. omega (arith, e)),
+  ne-eqb k LIKE-KW (λ e. omega (arith, e)),
+  ne-eqb k IN (λ e. omega (arith, e)),
+  ne-eqb k BETWEEN (λ e. omega (arith, e)),
+  ne-eqb k NOT (λ e. omega (arith, e)),
+  ne-eqb k ISNULL (λ e. omega (arith, e)),
+  ne-eqb k NOTNULL (λ e. omega (arith, e)),
+  ne-eqb k COLLATE (λ e. omega (arith, e)),
+)
+
+-- the row at a kind that is known
+op-at : (k d : ℕ) (r : Row) → k ≡ d → opRow d ≡ r → opRow k ≡ r
+op-at k d r e h = rw e h
+
+op-rows : (opRow NOT ≡ notRow) × (opRow IN ≡ inRow) × (opRow BETWEEN ≡ betweenRow) × (opRow LIKE-KW ≡ likeRow) × (opRow IS ≡ isRow) × (opRow COLLATE ≡ collateRow)
+unfolding opRow pick
+op-rows = (refl, refl, refl, refl, refl, refl)
+
+-- the operators of strength 4 that take a right operand take it at 5
+four : (k : ℕ) → mem k (NOT ∷ BETWEEN ∷ LIKE-KW ∷ IS ∷ []) ≡ true → strengthOf k + 1 ≡ 5
+unfolding strengthOf mem
+four k m = pick-inv (eqb k NOT) true _ true m (λ z x. rw (eqb-eq k NOT z))
+    (λ z m. pick-inv (eqb k BETWEEN) true _ true m (λ z x. rw (eqb-eq k BETWEEN z))
+    (λ z m. pick-inv (eqb k LIKE-KW) true _ true m (λ z x. rw (eqb-eq k LIKE-KW z))
+    (λ z m. pick-inv (eqb k IS) true _ true m (λ z x. rw (eqb-eq k IS z)) (λ z x. 0≢1 x))))
+
+lastTest : ℕ → Bool
+lastTest k = pick (ltb k NOT) true (λ w. pick (mem k (NOT ∷ IN ∷ BETWEEN ∷ LIKE-KW ∷ IS ∷ COLLATE ∷ [])) true (λ w. pick (eqb (strengthOf k) 0) true (λ w. eqRow (opRow k) nullTestRow)))
+
+last-right : below? BOUND lastTest ≡ true
+unfolding lastTest below? strengthOf opRow eqRow eqItems both mem pick
+last-right = refl
+
+op-null-test : (k : ℕ) → k < BOUND → 0 < strengthOf k → ltb k NOT ≡ false → mem k (NOT ∷ IN ∷ BETWEEN ∷ LIKE-KW ∷ IS ∷ COLLATE ∷ []) ≡ false → opRow k ≡ nullTestRow
+unfolding lastTest pick
+op-null-test k h p a m = same-row (opRow k) nullTestRow (rw (a, m, ne-eqb (strengthOf k) 0 (λ e. omega (arith, e, p))) at (throughout BOUND lastTest last-right k h))
+
+-- ── each of them ──
+module _ (K T : List ℕ) (good : Good K T) (f : ℕ) (at : ℕ) (c : Around) (pre : ℕ) (F : OpenRow) (tok : F .t ≡ tokAt K T at) (b : below (F .r) (F .c) ≡ c) where
+  abbrev Comes : Walked → Type 0
+  Comes w = Goes K T F (F .r .items) nil (at + 1) pre w
+
+  abbrev node' : Tree → Val
+  node' k = value (node (F .r) (F .l) (F .t) k)
+
+  -- the row's items are these
+  with-items : (r : Row) (w : Walked) → F .r ≡ r → Goes K T F (r .items) nil (at + 1) pre w → Comes w
+  with-items r w e g = subst (λ i. Goes K T F i nil (at + 1) pre w) (sym (ap (λ q. q .items) e)) g
+
+  abbrev Over : Tree → ℕ → ℕ → List Val → Type 0
+  Over k code d vs = (node' k .num ≡ 0) × (node' k .nodes ≡ one code d (value (F .l) ∷ vs) .nodes)
+
+  over-binary : (s : ℕ) → F .r ≡ binary s → (x : Tree) → Over (add nil x) node-binary (kindAt K at) (value x ∷ [])
+  unfolding value valueOf ruled rules pick
+  over-binary s e x = rw (e, tok) (refl, refl)
+
+  by-binary : BinaryOK K T f → (s : ℕ) → F .r ≡ binary s → s ≤ 10 → Comes (binaryW K T f (at + 1) c (s + 1) (kindAt K at) pre)
+  by-binary ok s e h = with-items (binary s) _ e (binary-goes K T good f ok F nil (at + 1) c (s + 1) (kindAt K at) pre (omega arith) (omega (arith, h)) b
+      (λ x. over-binary s e x .0) (λ x. over-binary s e x .1))
+
+  by-not : NegatedOK K T f → F .r ≡ notRow → Comes (negatedW K T f (at + 1) c 5 pre)
+  by-not ok e = with-items notRow _ e (ok (at + 1) c pre F e b)
+
+  over-in : F .r ≡ inRow → (u v : Tok) (x : Tree) → Over (add (add (add nil (leaf u)) x) (leaf v)) (choose (isQueryVal (value x)) node-in-query node-in-list) 0 (inside (value x) ∷ [])
+  unfolding value valueOf ruled rules pick _#_ side
+  over-in e u v x = rw e (refl, refl)
+
+  by-in : InsideOK K T f → F .r ≡ inRow → Comes (insideW K T f (at + 1) c 0 pre)
+  unfolding capOf mem pick side
+  by-in ok e sg len = told-map (insideW K T f (at + 1) c 0 pre) (ok (at + 1) c 0 pre F (ap (λ q. q .items) e) b (rw e))
+      (λ a s m rs q. let x = inside (value (q .1)) in let k = add (add (add nil (leaf (q .0))) (q .1)) (leaf (q .2)) in let o = over-in e (q .0) (q .2) (q .1) in
+      let g = made (choose (isQueryVal (value (q .1))) node-in-query node-in-list) 0 2 pre (x ∷ []) (x .nodes) (node' k) (value (F .l)) rs (o .0) (o .1)
+      (beside-end (x .nodes)) (ap (λ i. i + 1) (single-count (x .nodes) (q .5))) sg len (q .4) in
+      (k, q .3, omega arith, g .0, g .1, g .2))
+      (λ m p h. h)
+
+  over-between : F .r ≡ betweenRow → (v : Tok) (x z : Tree) → Over (add (add (add nil x) (leaf v)) z) node-between 0 (value x ∷ empty ∷ value z ∷ [])
+  unfolding value valueOf ruled rules pick
+  over-between e v x z = rw e (refl, refl)
+
+  by-between : BetweenOK K T f → F .r ≡ betweenRow → Comes (betweenW K T f (at + 1) c 5 0 pre)
+  unfolding capOf mem pick
+  by-between ok e sg len = told-map (betweenW K T f (at + 1) c 5 0 pre) (ok (at + 1) c 0 pre F (ap (λ q. q .items) e) b (rw e))
+      (λ a s m rs q. let x = q .0 in let z = q .2 in let k = add (add (add nil x) (leaf (q .1))) z in let o = over-between e (q .1) x z in
+      let g = made node-between 0 3 pre (value x ∷ empty ∷ value z ∷ []) (beside (value x .nodes) (value z .nodes)) (node' k) (value (F .l)) rs (o .0) (o .1)
+      (bounds-side (value x) (value z)) (bounds-count (value x) (value z) (q .4 .1 .single) (q .5 .1 .single)) sg len
+      (q .6 ∙ ap (over node-between 0 3 pre) (sym (records-beside (value x .nodes) (value z .nodes)))) in
+      (k, q .3, expr-cap z (q .5 .0) (q .5 .1), g .0, g .1, g .2))
+      (λ m p h. h)
+
+  over-like : F .r ≡ likeRow → (x : Tree) → Over (add nil x) node-binary (200 + getD T at 0) (value x ∷ [])
+  unfolding value valueOf ruled rules pick
+  over-like e x = rw (e, tok) (refl, refl)
+
+  by-like : BinaryOK K T f → F .r ≡ likeRow → Comes (binaryW K T f (at + 1) c 5 (200 + getD T at 0) pre)
+  by-like ok e = with-items likeRow _ e (binary-goes K T good f ok F nil (at + 1) c 5 (200 + getD T at 0) pre (omega arith) (omega arith) b (λ x. over-like e x .0) (λ x. over-like e x .1))
+
+  -- IS NOT, and IS without NOT
+  abbrev isNotRow : Row
+  isNotRow = part row-is-not []
+
+  over-is-not : F .r ≡ isRow → kindAt K at ≡ IS → (u : Tok) (x : Tree) → Over (add (add nil (node isNotRow nil u nil)) x) node-binary 137 (value x ∷ [])
+  unfolding value valueOf ruled rules pick _#_
+  over-is-not e d u x = rw (e, tok, d) (refl, refl)
+
+  over-is : F .r ≡ isRow → kindAt K at ≡ IS → (x : Tree) → Over (add (add nil nil) x) node-binary 37 (value x ∷ [])
+  unfolding value valueOf ruled rules pick _#_
+  over-is e d x = rw (e, tok, d) (refl, refl)
+
+  by-is : BinaryOK K T f → F .r ≡ isRow → kindAt K at ≡ IS → Comes (choose (eqb (kindAt K (at + 1)) NOT) (binaryW K T f (at + 2) c 5 137 pre) (binaryW K T f (at + 1) c 5 37 pre))
+  unfolding isQuery plainClasses mem pick
+  by-is ok e d sg len = told-choose (eqb (kindAt K (at + 1)) NOT) (binaryW K T f (at + 2) c 5 137 pre) (binaryW K T f (at + 1) c 5 37 pre)
+      (λ z. let y = node isNotRow nil (tokAt K T (at + 1)) nil in
+      let on = nt-got K T (good .sound) F (any IsNot?) (nt (E 5) ∷ []) nil (at + 1) (rw b (is-not (eqb-eq (kindAt K (at + 1)) NOT z))) in
+      told-map (binaryW K T f (at + 2) c 5 137 pre)
+      (binary-goes K T good f ok F (add nil y) (at + 2) c 5 137 pre (omega arith) (omega arith) b (λ x. over-is-not e d (tokAt K T (at + 1)) x .0) (λ x. over-is-not e d (tokAt K T (at + 1)) x .1) sg len)
+      (λ a s m rs q. (q .0, items ∙ on ∙ q .1, q .2, q .3, q .4, q .5))
+      (λ m p h. items ∙ on ∙ h))
+      (λ z. let on = nt-got K T (good .sound) F (any IsNot?) (nt (E 5) ∷ []) nil (at + 1)
+      (rw b (call-absent K T (good .sound) c (any IsNot?) (at + 1) (out IsNot? (kindAt K (at + 1)) (rw firsts-IsNot (none-of-1 (eqb-false (kindAt K (at + 1)) NOT z)))) IsNot-may)) in
+      told-map (binaryW K T f (at + 1) c 5 37 pre)
+      (binary-goes K T good f ok F (add nil nil) (at + 1) c 5 37 pre (omega arith) (omega arith) b (λ x. over-is e d x .0) (λ x. over-is e d x .1) sg len)
+      (λ a s m rs q. (q .0, items ∙ on ∙ q .1, q .2, q .3, q .4, q .5))
+      (λ m p h. items ∙ on ∙ h))
+    where
+      items : rests K T F (F .r .items) nil (at + 1) ≡ rests K T F (nt (any IsNot?) ∷ nt (E 5) ∷ []) nil (at + 1)
+      items = ap (λ q. rests K T F (q .items) nil (at + 1)) e
+
+      is-not : kindAt K (at + 1) ≡ NOT → calls K T c (any IsNot?) (at + 1) ≡ got (node isNotRow nil (tokAt K T (at + 1)) nil) (at + 2) (from K T (at + 2))
+      is-not z = begin K T good c IsNot? isNotRow (at + 1) (rw z IsNot-at-NOT) refl refl ∙ whole K T good c IsNot? isNotRow (at + 1) nil (at + 1 + 1) refl
+          ∙ ap (λ i. got (node isNotRow nil (tokAt K T (at + 1)) nil) i (from K T i)) (omega arith)
+
+  over-collate : F .r ≡ collateRow → (x : Tree) → Over (add nil x) node-collate 0 (value x ∷ [])
+  unfolding value valueOf ruled rules pick
+  over-collate e x = rw e (refl, refl)
+
+  name-nodes : (n : ℕ) → value (nameTree K T good n) .nodes ≡ name (tokAt K T n) .nodes
+  unfolding value valueOf ruled rules pick
+  name-nodes n = refl
+
+  by-collate : F .r ≡ collateRow → Comes (collateW K T (at + 1) pre)
+  unfolding collateW capOf side count records
+  by-collate e sg len = told-name K T good (at + 1) _
+      (λ z. let x = nameTree K T good (at + 1) in let o = over-collate e x in
+      let g = made node-collate 0 2 pre (value x ∷ []) (name (tokAt K T (at + 1)) .nodes) (node' (add nil x)) (value (F .l)) (over 44 0 2 pre (nameRec K T (at + 1) ∷ [])) (o .0) (o .1)
+      (beside-end (value x .nodes) ∙ name-nodes (at + 1)) refl sg len refl in
+      told-done (at + 1 + 1) 0 0 (over 44 0 2 pre (nameRec K T (at + 1) ∷ []))
+      (add nil x, items ∙ nt-got K T (good .sound) F (any Name) [] nil (at + 1) (rw b (name-got K T good (at + 1) c z)), omega arith, g .0, g .1, g .2))
+      (λ z. items ∙ nt-refused K T (good .sound) F (any Name) [] nil (at + 1) (rw b (name-wrong K T good (at + 1) c z)))
+    where
+      items : rests K T F (F .r .items) nil (at + 1) ≡ rests K T F (nt (any Name) ∷ []) nil (at + 1)
+      items = ap (λ q. rests K T F (q .items) nil (at + 1)) e
+
+  over-null : F .r ≡ nullTestRow → Over nil node-null-test (kindAt K at) []
+  unfolding value valueOf ruled rules pick
+  over-null e = rw (e, tok) (refl, refl)
+
+  by-null : F .r ≡ nullTestRow → Comes (done (at + 1) 4 0 (rec 40 (kindAt K at) 1 (pre + 1) ∷ []))
+  unfolding capOf side count records
+  by-null e sg len = let o = over-null e in
+      let g = made node-null-test (kindAt K at) 1 pre [] end (node' nil) (value (F .l)) (rec 40 (kindAt K at) 1 (pre + 1) ∷ []) (o .0) (o .1) refl refl sg len (ap (λ i. rec 40 (kindAt K at) 1 i ∷ []) (omega arith)) in
+      told-done (at + 1) 4 0 (rec 40 (kindAt K at) 1 (pre + 1) ∷ []) (nil, ap (λ q. rests K T F (q .items) nil (at + 1)) e, omega arith, g .0, g .1, g .2)
+
+module _ (K T : List ℕ) (good : Good K T) (f : ℕ) where
+  pub operator-ok : BinaryOK K T f → NegatedOK K T f → InsideOK K T f → BetweenOK K T f → OperatorOK K T (suc f)
+  unfolding exprW mem pick
+  operator-ok bin neg ins bet at c s pre F p es er et b sg len =
+      told-choose (ltb (kindAt K at) NOT) (binaryW K T f (at + 1) c s (kindAt K at) pre) _
+      (λ z. rw es (by-binary K T good f at c pre F et b bin (strengthOf (kindAt K at)) (er ∙ op-binary (kindAt K at) (ltb-true (kindAt K at) NOT z)) (strength-most (kindAt K at) (good .bound at)) sg len))
+      (λ a. told-choose (eqb (kindAt K at) NOT) (negatedW K T f (at + 1) c s pre) _
+      (λ z. rw (es ∙ four (kindAt K at) (rw z)) (by-not K T good f at c pre F et b neg (row NOT notRow (op-rows .0) z) sg len))
+      (λ a1. told-choose (eqb (kindAt K at) IN) (insideW K T f (at + 1) c 0 pre) _
+      (λ z. by-in K T good f at c pre F et b ins (row IN inRow (op-rows .1) z) sg len)
+      (λ a2. told-choose (eqb (kindAt K at) BETWEEN) (betweenW K T f (at + 1) c s 0 pre) _
+      (λ z. rw (es ∙ four (kindAt K at) (rw (a1, z))) (by-between K T good f at c pre F et b bet (row BETWEEN betweenRow (op-rows .2) z) sg len))
+      (λ a3. told-choose (eqb (kindAt K at) LIKE-KW) (binaryW K T f (at + 1) c s (200 + getD T at 0) pre) _
+      (λ z. rw (es ∙ four (kindAt K at) (rw (a1, a3, z))) (by-like K T good f at c pre F et b bin (row LIKE-KW likeRow (op-rows .3) z) sg len))
+      (λ a4. told-choose (eqb (kindAt K at) IS) (choose (eqb (kindAt K (at + 1)) NOT) (binaryW K T f (at + 2) c s 137 pre) (binaryW K T f (at + 1) c s 37 pre)) _
+      (λ z. rw (es ∙ four (kindAt K at) (rw (a1, a3, a4, z))) (by-is K T good f at c pre F et b bin (row IS isRow (op-rows .4) z) (eqb-eq (kindAt K at) IS z) sg len))
+      (λ a5. told-choose (eqb (kindAt K at) COLLATE) (collateW K T (at + 1) pre) _
+      (λ z. by-collate K T good f at c pre F et b (row COLLATE collateRow (op-rows .5) z) sg len)
+      (λ a6. by-null K T good f at c pre F et b (er ∙ op-null-test (kindAt K at) (good .bound at) p a (rw (a1, a2, a3, a4, a5, a6))) sg len)))))))
+    where
+      row : (d : ℕ) (r : Row) → opRow d ≡ r → eqb (kindAt K at) d ≡ true → F .r ≡ r
+      row d r h z = er ∙ op-at (kindAt K at) d r (eqb-eq (kindAt K at) d z) h
