@@ -1,0 +1,58 @@
+-- Made by `proofkit expand` from Proof.tmpl beside it: edit that file.
+use Rattle.reader.proofs.Steps.{ended, further}
+use mathlib.Core.Logic.{⊎-elim}
+use native.Mathlib.Omega.{arith}
+use borrow.Author.Needs.{needs}
+use Rattle.reader.proofs.alias.Statement.{statement}
+use Rattle.reader.proofs.alias.Tie as tie
+use Rattle.reader.proofs.alias.Reads as reads
+use Rattle.reader.proofs.alias.Lts as lts
+use Rattle.reader.proofs.absent.Reads as absent-reads
+use Rattle.reader.proofs.got.Reads as got-reads
+use Rattle.reader.proofs.peek.Reads as peek-reads
+use Rattle.reader.proofs.renamed.Reads as renamed-reads
+
+-- src/lib.rt:1094:9
+peek-requires : tie.Need-peek-requires
+peek-requires c κs = search needs
+
+-- src/lib.rt:1098:17
+absent-requires : tie.Need-absent-requires
+absent-requires c κs = search needs
+
+-- src/lib.rt:1099:13
+got-requires : tie.Need-got-requires
+got-requires c κs = search needs
+
+-- src/lib.rt:1096:36
+renamed-requires : tie.Need-renamed-requires
+renamed-requires c κs = ⊎-elim (λ w. omega arith) (λ w. omega arith) (c .before .match .came)
+
+-- src/lib.rt:1090:1
+same-length : tie.Need-same-length
+same-length c = search needs
+
+-- src/lib.rt:1090:1
+returns : tie.Need-returns
+returns c = ended (c .got .ensures) (omega (arith, c .before .before .before .before .before .before .before .before .before .pre, c .before .before .before .absent .ensures, c .before .before .before .before .before .before .before .peek .ensures))
+
+-- src/lib.rt:1090:1
+same-length-2 : tie.Need-same-length-2
+same-length-2 c = search needs
+
+-- src/lib.rt:1090:1
+returns-2 : tie.Need-returns-2
+returns-2 c = further (c .before .before .renamed .ensures) (omega arith)
+
+pub alias-spec : {M : Type 1} → statement M
+alias-spec =
+    tie.close
+    (tie.spec
+    peek-requires
+    absent-requires
+    got-requires
+    renamed-requires
+    same-length
+    returns
+    same-length-2
+    returns-2)

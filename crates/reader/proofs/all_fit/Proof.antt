@@ -1,0 +1,78 @@
+-- Made by `proofkit expand` from Proof.tmpl beside it: edit that file.
+use Prim.Native.Nat.{_-_, _<_, _≤_, ℕ}
+use Rattle.reader.proofs.TwoLists.{likes-few, or-none}
+use Rattle.reader.specs.Bounds.{texts}
+use borrow.Author.Count.{below-more}
+use borrow.Author.Needs.{needs}
+use borrow.Author.Tests.{eqb-true}
+use lib.ListN.{getD, length}
+use mathlib.Core.Path.{_≡_}
+use native.Mathlib.Omega.{arith}
+use Rattle.reader.proofs.all_fit.Statement.{statement}
+use Rattle.reader.proofs.all_fit.Tie as tie
+use Rattle.reader.proofs.all_fit.Reads as reads
+use Rattle.reader.proofs.all_fit.Lts as lts
+use Rattle.reader.proofs.odd.Reads as odd-reads
+
+abbrev Inv-loop : tie.InvT-loop
+Inv-loop kinds texts n bad₀ i₀ bad i = (i ≤ n) × (n ≡ length kinds) × (bad ≡ 0 → (j : ℕ) → j < i → getD kinds j 0 ≡ 40 → getD texts j 0 ≤ 3)
+
+abbrev μ-loop : tie.MeasureT-loop
+μ-loop kinds texts n bad₀ i₀ bad i = n - i
+
+-- src/lib.rt:1519:5
+loop-holds : tie.Need-loop-holds Inv-loop μ-loop
+loop-holds c = omega arith
+
+-- src/lib.rt:1520:25
+mul-odd : tie.Need-mul-odd Inv-loop μ-loop
+mul-odd c = omega arith
+
+-- src/lib.rt:1520:25
+shared-slice-read-odd : tie.Need-shared-slice-read-odd Inv-loop μ-loop
+shared-slice-read-odd c = omega arith
+
+-- src/lib.rt:1520:35
+mul-odd-2 : tie.Need-mul-odd-2 Inv-loop μ-loop
+mul-odd-2 c = omega arith
+
+-- src/lib.rt:1520:35
+shared-slice-read-odd-2 : tie.Need-shared-slice-read-odd-2 Inv-loop μ-loop
+shared-slice-read-odd-2 c = omega arith
+
+-- src/lib.rt:1520:21
+odd-requires : tie.Need-odd-requires Inv-loop μ-loop
+odd-requires c κs = search needs
+
+-- src/lib.rt:1521:9
+add-i : tie.Need-add-i Inv-loop μ-loop
+add-i c = omega arith
+
+-- src/lib.rt:1519:5
+loop-less : tie.Need-loop-less Inv-loop μ-loop
+loop-less c = omega arith
+
+-- src/lib.rt:1519:5
+loop-again : tie.Need-loop-again Inv-loop μ-loop
+loop-again c = (omega arith, c .before .before .before .before .loop .inv .1, λ z. below-more _ _ (c .before .before .before .before .loop .inv .2 (or-none (c .before .before .before .before .loop .bad) (c .odd .result) z .0)) (c .odd .ensures (or-none (c .before .before .before .before .loop .bad) (c .odd .result) z .1)))
+
+-- src/lib.rt:1512:1
+returns : tie.Need-returns Inv-loop μ-loop
+returns c = λ e. likes-few (c .before .before .before .before .args .kinds .now) (c .before .before .before .before .args .texts .now) (λ i l. c .before .loop .inv .2 (eqb-true _ _ e) i (omega (arith, c .before .loop .inv .0, c .before .loop .inv .1, l)))
+
+pub all-fit-spec : {M : Type 1} → statement M
+all-fit-spec =
+    tie.close
+    (tie.spec
+    Inv-loop
+    μ-loop
+    loop-holds
+    mul-odd
+    shared-slice-read-odd
+    mul-odd-2
+    shared-slice-read-odd-2
+    odd-requires
+    add-i
+    loop-less
+    loop-again
+    returns)

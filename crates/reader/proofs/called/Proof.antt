@@ -1,0 +1,82 @@
+-- Made by `proofkit expand` from Proof.tmpl beside it: edit that file.
+use Rattle.reader.proofs.Steps.{ended, refused}
+use native.Mathlib.Omega.{arith}
+use borrow.Author.Needs.{needs}
+use Rattle.reader.proofs.called.Statement.{statement}
+use Rattle.reader.proofs.called.Tie as tie
+use Rattle.reader.proofs.called.Reads as reads
+use Rattle.reader.proofs.called.Lts as lts
+use Rattle.reader.proofs.emit.Reads as emit-reads
+use Rattle.reader.proofs.got.Reads as got-reads
+use Rattle.reader.proofs.peek.Reads as peek-reads
+use Rattle.reader.proofs.wrong.Reads as wrong-reads
+
+-- src/lib.rt:696:9
+peek-requires : tie.Need-peek-requires
+peek-requires c κs = search needs
+
+-- src/lib.rt:698:9
+wrong-requires : tie.Need-wrong-requires
+wrong-requires c κs = search needs
+
+-- src/lib.rt:698:9
+returns : tie.Need-returns
+returns c = refused (c .wrong .ensures) (omega arith)
+
+-- src/lib.rt:700:40
+sub-emit : tie.Need-sub-emit
+sub-emit c = search needs
+
+-- src/lib.rt:700:40
+add-emit : tie.Need-add-emit
+add-emit c = search needs
+
+-- src/lib.rt:700:9
+emit-requires : tie.Need-emit-requires
+emit-requires c κs = search needs
+
+-- src/lib.rt:701:43
+sub-emit-2 : tie.Need-sub-emit-2
+sub-emit-2 c = search needs
+
+-- src/lib.rt:701:43
+add-emit-2 : tie.Need-add-emit-2
+add-emit-2 c = search needs
+
+-- src/lib.rt:701:9
+emit-requires-2 : tie.Need-emit-requires-2
+emit-requires-2 c κs = search needs
+
+-- src/lib.rt:702:9
+add-got : tie.Need-add-got
+add-got c = search needs
+
+-- src/lib.rt:702:5
+got-requires : tie.Need-got-requires
+got-requires c κs = search needs
+
+-- src/lib.rt:684:1
+same-length : tie.Need-same-length
+same-length c = search needs
+
+-- src/lib.rt:684:1
+returns-2 : tie.Need-returns-2
+returns-2 c = ended (c .got .ensures) (omega (arith, c .before .before .before .before .before .before .before .before .before .before .before .before .pre, c .before .before .before .emit2 .ensures, c .before .before .before .before .before .before .before .emit .ensures, c .before .before .before .before .before .before .before .before .before .if1 .left, c .before .before .before .before .before .before .before .before .before .before .peek .ensures))
+
+pub called-spec : {M : Type 1} → statement M
+called-spec =
+    tie.close
+    (tie.spec
+    peek-requires
+    wrong-requires
+    returns
+    sub-emit
+    add-emit
+    emit-requires
+    sub-emit-2
+    add-emit-2
+    emit-requires-2
+    add-got
+    got-requires
+    same-length
+    returns-2)

@@ -1,0 +1,67 @@
+-- Made by `proofkit expand` from Proof.tmpl beside it: edit that file.
+use Rattle.reader.proofs.Steps.{ended, refused}
+use native.Mathlib.Omega.{arith}
+use borrow.Author.Needs.{needs}
+use Rattle.reader.proofs.close.Statement.{statement}
+use Rattle.reader.proofs.close.Tie as tie
+use Rattle.reader.proofs.close.Reads as reads
+use Rattle.reader.proofs.close.Lts as lts
+use Rattle.reader.proofs.emit.Reads as emit-reads
+use Rattle.reader.proofs.got.Reads as got-reads
+use Rattle.reader.proofs.peek.Reads as peek-reads
+use Rattle.reader.proofs.wrong.Reads as wrong-reads
+
+-- src/lib.rt:251:9
+peek-requires : tie.Need-peek-requires
+peek-requires c κs = search needs
+
+-- src/lib.rt:253:9
+wrong-requires : tie.Need-wrong-requires
+wrong-requires c κs = search needs
+
+-- src/lib.rt:253:9
+returns : tie.Need-returns
+returns c = refused (c .wrong .ensures) (omega arith)
+
+-- src/lib.rt:255:43
+sub-emit : tie.Need-sub-emit
+sub-emit c = search needs
+
+-- src/lib.rt:255:43
+add-emit : tie.Need-add-emit
+add-emit c = search needs
+
+-- src/lib.rt:255:9
+emit-requires : tie.Need-emit-requires
+emit-requires c κs = search needs
+
+-- src/lib.rt:256:9
+add-got : tie.Need-add-got
+add-got c = search needs
+
+-- src/lib.rt:256:5
+got-requires : tie.Need-got-requires
+got-requires c κs = search needs
+
+-- src/lib.rt:239:1
+same-length : tie.Need-same-length
+same-length c = search needs
+
+-- src/lib.rt:239:1
+returns-2 : tie.Need-returns-2
+returns-2 c = ended (c .got .ensures) (omega arith)
+
+pub close-spec : {M : Type 1} → statement M
+close-spec =
+    tie.close
+    (tie.spec
+    peek-requires
+    wrong-requires
+    returns
+    sub-emit
+    add-emit
+    emit-requires
+    add-got
+    got-requires
+    same-length
+    returns-2)

@@ -1,0 +1,25 @@
+-- Made by `proofkit expand` from Proof.tmpl beside it: edit that file.
+use Rattle.reader.specs.Bounds.{queriesOf}
+use native.Mathlib.Omega.{arith}
+use borrow.Author.Needs.{needs}
+use Rattle.reader.proofs.deeper.Statement.{statement}
+use Rattle.reader.proofs.deeper.Tie as tie
+use Rattle.reader.proofs.deeper.Reads as reads
+use Rattle.reader.proofs.deeper.Lts as lts
+use Rattle.reader.proofs.asking.Reads as asking-reads
+
+-- src/lib.rt:114:5
+asking-requires : tie.Need-asking-requires
+asking-requires c κs = search needs
+
+-- src/lib.rt:114:5
+add-result : tie.Need-add-result
+add-result c = search needs
+
+-- src/lib.rt:110:1
+returns : tie.Need-returns
+unfolding queriesOf
+returns c = omega arith
+
+pub deeper-spec : {M : Type 1} → statement M
+deeper-spec = tie.close (tie.spec asking-requires add-result returns)

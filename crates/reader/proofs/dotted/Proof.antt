@@ -1,0 +1,87 @@
+-- Made by `proofkit expand` from Proof.tmpl beside it: edit that file.
+use Rattle.reader.proofs.Steps.{ended, further}
+use native.Mathlib.Omega.{arith}
+use borrow.Author.Needs.{needs}
+use Rattle.reader.proofs.dotted.Statement.{statement}
+use Rattle.reader.proofs.dotted.Tie as tie
+use Rattle.reader.proofs.dotted.Reads as reads
+use Rattle.reader.proofs.dotted.Lts as lts
+use Rattle.reader.proofs.dots.Reads as dots-reads
+use Rattle.reader.proofs.emit.Reads as emit-reads
+use Rattle.reader.proofs.got.Reads as got-reads
+use Rattle.reader.proofs.peek.Reads as peek-reads
+
+-- src/lib.rt:615:13
+emit-requires : tie.Need-emit-requires
+emit-requires c κs = search needs
+
+-- src/lib.rt:616:9
+got-requires : tie.Need-got-requires
+got-requires c κs = search needs
+
+-- src/lib.rt:616:9
+same-length : tie.Need-same-length
+same-length c = search needs
+
+-- src/lib.rt:616:9
+returns : tie.Need-returns
+returns c = ended (c .got .ensures) (omega arith)
+
+-- src/lib.rt:619:21
+add-peek : tie.Need-add-peek
+add-peek c = search needs
+
+-- src/lib.rt:619:12
+peek-requires : tie.Need-peek-requires
+peek-requires c κs = search needs
+
+-- src/lib.rt:620:17
+emit-requires-2 : tie.Need-emit-requires-2
+emit-requires-2 c κs = search needs
+
+-- src/lib.rt:621:24
+add-got : tie.Need-add-got
+add-got c = search needs
+
+-- src/lib.rt:621:13
+got-requires-2 : tie.Need-got-requires-2
+got-requires-2 c κs = search needs
+
+-- src/lib.rt:621:13
+same-length-2 : tie.Need-same-length-2
+same-length-2 c = search needs
+
+-- src/lib.rt:621:13
+returns-2 : tie.Need-returns-2
+returns-2 c = ended (c .got2 .ensures) (omega (arith, c .before .before .before .before .before .before .before .before .before .before .pre, c .before .before .before .emit2 .ensures, c .before .before .before .before .before .if3 .taken, c .before .before .before .before .before .before .peek .ensures, c .before .before .before .before .before .before .before .if2 .taken, c .before .before .before .before .before .before .before .before .if1 .left))
+
+-- src/lib.rt:624:5
+dots-requires : tie.Need-dots-requires
+dots-requires c κs = search needs
+
+-- src/lib.rt:610:1
+same-length-3 : tie.Need-same-length-3
+same-length-3 c = search needs
+
+-- src/lib.rt:610:1
+returns-3 : tie.Need-returns-3
+returns-3 c = further (c .before .before .dots .ensures) (omega arith)
+
+pub dotted-spec : {M : Type 1} → statement M
+dotted-spec =
+    tie.close
+    (tie.spec
+    emit-requires
+    got-requires
+    same-length
+    returns
+    add-peek
+    peek-requires
+    emit-requires-2
+    add-got
+    got-requires-2
+    same-length-2
+    returns-2
+    dots-requires
+    same-length-3
+    returns-3)

@@ -1,0 +1,151 @@
+-- Made by `proofkit expand` from Proof.tmpl beside it: edit that file.
+use Prim.Native.Nat.{_-_, _≤_}
+use Rattle.reader.proofs.Steps.{ended, refused}
+use Rattle.reader.proofs.Tables.{united-small}
+use Rattle.reader.specs.Bounds.{tokens}
+use borrow.Author.Needs.{needs}
+use native.Mathlib.Omega.{arith}
+use Rattle.reader.proofs.joined.Statement.{statement}
+use Rattle.reader.proofs.joined.Tie as tie
+use Rattle.reader.proofs.joined.Reads as reads
+use Rattle.reader.proofs.joined.Lts as lts
+use Rattle.reader.proofs.got.Reads as got-reads
+use Rattle.reader.proofs.peek.Reads as peek-reads
+use Rattle.reader.proofs.text.Reads as text-reads
+use Rattle.reader.proofs.wrong.Reads as wrong-reads
+use Rattle.words.proofs.flags.Reads as flags-reads
+use Rattle.words.proofs.legal.Reads as legal-reads
+use Rattle.words.proofs.united.Reads as united-reads
+
+abbrev Inv-loop : tie.InvT-loop
+Inv-loop io from first at₀ flags₀ words₀ at flags words = (at ≤ tokens io) × (from ≤ at) × (flags ≤ 63) × (words ≤ 3)
+
+abbrev μ-loop : tie.MeasureT-loop
+μ-loop io from first at₀ flags₀ words₀ at flags words = tokens io - at
+
+-- src/lib.rt:1184:20
+add-got : tie.Need-add-got Inv-loop μ-loop
+add-got c = omega arith
+
+-- src/lib.rt:1184:9
+got-requires : tie.Need-got-requires Inv-loop μ-loop
+got-requires c κs = search needs
+
+-- src/lib.rt:1184:9
+returns : tie.Need-returns Inv-loop μ-loop
+returns c = ended (c .got .ensures) (omega arith)
+
+-- src/lib.rt:1189:5
+loop-holds : tie.Need-loop-holds Inv-loop μ-loop
+loop-holds c = omega arith
+
+-- src/lib.rt:1190:13
+peek-requires : tie.Need-peek-requires Inv-loop μ-loop
+peek-requires c κs = search needs
+
+-- src/lib.rt:1195:13
+wrong-requires : tie.Need-wrong-requires Inv-loop μ-loop
+wrong-requires c κs = omega arith
+
+-- src/lib.rt:1195:13
+returns-2 : tie.Need-returns-2 Inv-loop μ-loop
+returns-2 c = refused (c .wrong .ensures) (omega arith)
+
+-- src/lib.rt:1198:13
+wrong-requires-2 : tie.Need-wrong-requires-2 Inv-loop μ-loop
+wrong-requires-2 c κs = omega arith
+
+-- src/lib.rt:1198:13
+returns-3 : tie.Need-returns-3 Inv-loop μ-loop
+returns-3 c = refused (c .wrong2 .ensures) (omega arith)
+
+-- src/lib.rt:1200:51
+text-requires : tie.Need-text-requires Inv-loop μ-loop
+text-requires c κs = omega arith
+
+-- src/lib.rt:1200:38
+flags-requires : tie.Need-flags-requires Inv-loop μ-loop
+flags-requires c κs = search needs
+
+-- src/lib.rt:1200:9
+united-requires : tie.Need-united-requires Inv-loop μ-loop
+united-requires c κs = search needs
+
+-- src/lib.rt:1201:9
+add-words : tie.Need-add-words Inv-loop μ-loop
+add-words c = omega (arith, c .before .before .before .before .before .before .before .before .before .pre, c .before .before .before .if4 .left, c .before .before .before .before .if3 .left, c .before .before .before .before .before .if2 .left, c .before .before .before .before .before .before .peek .ensures, c .before .before .before .before .before .before .before .loop .inv, c .before .before .before .before .before .before .before .before .if1 .left)
+
+-- src/lib.rt:1202:9
+add-at : tie.Need-add-at Inv-loop μ-loop
+add-at c = omega (arith, c .before .before .before .before .before .before .before .before .before .pre, c .before .before .before .if4 .left, c .before .before .before .before .if3 .left, c .before .before .before .before .before .if2 .left, c .before .before .before .before .before .before .peek .ensures, c .before .before .before .before .before .before .before .loop .inv, c .before .before .before .before .before .before .before .before .if1 .left)
+
+-- src/lib.rt:1189:5
+loop-less : tie.Need-loop-less Inv-loop μ-loop
+loop-less c = omega (arith, c .before .before .before .before .before .before .before .before .before .pre, c .before .before .before .if4 .left, c .before .before .before .before .if3 .left, c .before .before .before .before .before .if2 .left, c .before .before .before .before .before .before .peek .ensures, c .before .before .before .before .before .before .before .loop .inv, c .before .before .before .before .before .before .before .before .if1 .left)
+
+-- src/lib.rt:1189:5
+loop-again : tie.Need-loop-again Inv-loop μ-loop
+loop-again c = let u : (c .united .result) ≤ 63 = rw (c .united .ensures, c .before .flags .ensures) (united-small _ _ (c .before .before .before .before .before .before .before .loop .inv .2)) in omega arith
+
+-- src/lib.rt:1204:9
+legal-requires : tie.Need-legal-requires Inv-loop μ-loop
+legal-requires c κs = search needs
+
+-- src/lib.rt:1205:33
+cast-t14 : tie.Need-cast-t14 Inv-loop μ-loop
+cast-t14 c = omega arith
+
+-- src/lib.rt:1205:9
+returns-4 : tie.Need-returns-4 Inv-loop μ-loop
+returns-4 c = record { holds = omega arith }
+
+-- src/lib.rt:1207:9
+add-got-2 : tie.Need-add-got-2 Inv-loop μ-loop
+add-got-2 c = omega arith
+
+-- src/lib.rt:1207:21
+add-got-3 : tie.Need-add-got-3 Inv-loop μ-loop
+add-got-3 c = omega arith
+
+-- src/lib.rt:1207:20
+cast-got : tie.Need-cast-got Inv-loop μ-loop
+cast-got c = omega arith
+
+-- src/lib.rt:1207:5
+got-requires-2 : tie.Need-got-requires-2 Inv-loop μ-loop
+got-requires-2 c κs = search needs
+
+-- src/lib.rt:1179:1
+returns-5 : tie.Need-returns-5 Inv-loop μ-loop
+returns-5 c = ended (c .got2 .ensures) (omega arith)
+
+pub joined-spec : {M : Type 1} → statement M
+joined-spec =
+    tie.close
+    (tie.spec
+    Inv-loop
+    μ-loop
+    add-got
+    got-requires
+    returns
+    loop-holds
+    peek-requires
+    wrong-requires
+    returns-2
+    wrong-requires-2
+    returns-3
+    text-requires
+    flags-requires
+    united-requires
+    add-words
+    add-at
+    loop-less
+    loop-again
+    legal-requires
+    cast-t14
+    returns-4
+    add-got-2
+    add-got-3
+    cast-got
+    got-requires-2
+    returns-5)

@@ -1,0 +1,137 @@
+-- Made by `proofkit expand` from Proof.tmpl beside it: edit that file.
+use Prim.Native.Nat.{_-_, _<_, _≤_}
+use lib.ListN.{length, length-set}
+use mathlib.Core.Path.{_≡_, refl}
+use native.Mathlib.Omega.{arith}
+use Rattle.reader.proofs.missing.Statement.{statement}
+use Rattle.reader.proofs.missing.Tie as tie
+use Rattle.reader.proofs.missing.Reads as reads
+use Rattle.reader.proofs.missing.Lts as lts
+
+abbrev Inv-loop : tie.InvT-loop
+Inv-loop nodes₀ made n end i₀ nodes i = (i ≤ end) × (end < 65552) × (length nodes ≡ length nodes₀)
+
+abbrev μ-loop : tie.MeasureT-loop
+μ-loop nodes₀ made n end i₀ nodes i = end - i
+
+-- src/lib.rt:202:15
+add-end : tie.Need-add-end Inv-loop μ-loop
+add-end c = omega arith
+
+-- src/lib.rt:204:5
+loop-holds : tie.Need-loop-holds Inv-loop μ-loop
+loop-holds c = omega arith
+
+-- src/lib.rt:205:20
+cast-base : tie.Need-cast-base Inv-loop μ-loop
+cast-base c = omega arith
+
+-- src/lib.rt:205:20
+mul-base : tie.Need-mul-base Inv-loop μ-loop
+mul-base c = omega arith
+
+-- src/lib.rt:206:12
+add-if1 : tie.Need-add-if1 Inv-loop μ-loop
+add-if1 c = omega arith
+
+-- src/lib.rt:209:9
+mul-nodes : tie.Need-mul-nodes Inv-loop μ-loop
+mul-nodes c = omega arith
+
+-- src/lib.rt:209:9
+slice-write-nodes : tie.Need-slice-write-nodes Inv-loop μ-loop
+slice-write-nodes c = omega arith
+
+-- src/lib.rt:210:15
+add-nodes : tie.Need-add-nodes Inv-loop μ-loop
+add-nodes c = omega arith
+
+-- src/lib.rt:210:9
+mul-nodes-2 : tie.Need-mul-nodes-2 Inv-loop μ-loop
+mul-nodes-2 c = omega arith
+
+-- src/lib.rt:210:9
+slice-write-nodes-2 : tie.Need-slice-write-nodes-2 Inv-loop μ-loop
+slice-write-nodes-2 c = simp length-set (omega arith)
+
+-- src/lib.rt:211:15
+add-nodes-2 : tie.Need-add-nodes-2 Inv-loop μ-loop
+add-nodes-2 c = omega arith
+
+-- src/lib.rt:211:9
+mul-nodes-3 : tie.Need-mul-nodes-3 Inv-loop μ-loop
+mul-nodes-3 c = omega arith
+
+-- src/lib.rt:211:9
+slice-write-nodes-3 : tie.Need-slice-write-nodes-3 Inv-loop μ-loop
+slice-write-nodes-3 c = simp length-set (omega arith)
+
+-- src/lib.rt:212:15
+add-nodes-3 : tie.Need-add-nodes-3 Inv-loop μ-loop
+add-nodes-3 c = omega arith
+
+-- src/lib.rt:212:9
+mul-nodes-4 : tie.Need-mul-nodes-4 Inv-loop μ-loop
+mul-nodes-4 c = omega arith
+
+-- src/lib.rt:212:9
+slice-write-nodes-4 : tie.Need-slice-write-nodes-4 Inv-loop μ-loop
+slice-write-nodes-4 c = simp length-set (omega arith)
+
+-- src/lib.rt:213:9
+add-i : tie.Need-add-i Inv-loop μ-loop
+add-i c = omega arith
+
+-- src/lib.rt:204:5
+loop-less : tie.Need-loop-less Inv-loop μ-loop
+loop-less c = omega arith
+
+-- src/lib.rt:204:5
+loop-again : tie.Need-loop-again Inv-loop μ-loop
+loop-again c = simp length-set (omega arith)
+
+-- src/lib.rt:198:1
+same-length : tie.Need-same-length Inv-loop μ-loop
+same-length c = c .before .loop .inv .2
+
+-- src/lib.rt:198:1
+returns : tie.Need-returns Inv-loop μ-loop
+returns c = refl
+
+-- src/lib.rt:198:1
+same-length-2 : tie.Need-same-length-2 Inv-loop μ-loop
+same-length-2 c = c .before .before .loop .inv .2
+
+-- src/lib.rt:198:1
+returns-2 : tie.Need-returns-2 Inv-loop μ-loop
+returns-2 c = refl
+
+pub missing-spec : {M : Type 1} → statement M
+missing-spec =
+    tie.close
+    (tie.spec
+    Inv-loop
+    μ-loop
+    add-end
+    loop-holds
+    cast-base
+    mul-base
+    add-if1
+    mul-nodes
+    slice-write-nodes
+    add-nodes
+    mul-nodes-2
+    slice-write-nodes-2
+    add-nodes-2
+    mul-nodes-3
+    slice-write-nodes-3
+    add-nodes-3
+    mul-nodes-4
+    slice-write-nodes-4
+    add-i
+    loop-less
+    loop-again
+    same-length
+    returns
+    same-length-2
+    returns-2)

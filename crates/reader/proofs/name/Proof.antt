@@ -1,0 +1,67 @@
+-- Made by `proofkit expand` from Proof.tmpl beside it: edit that file.
+use Prim.Native.Nat.{_<_}
+use Rattle.reader.proofs.Steps.{ended, one-on-got, one-on-refused, refused}
+use Rattle.reader.proofs.Tables.{name-is}
+use borrow.Author.Tests.{not-false}
+use mathlib.Core.Path.{_∙_, refl, sym}
+use native.Mathlib.Omega.{arith}
+use borrow.Author.Needs.{needs}
+use Rattle.reader.proofs.name.Statement.{statement}
+use Rattle.reader.proofs.name.Tie as tie
+use Rattle.reader.proofs.name.Reads as reads
+use Rattle.reader.proofs.name.Lts as lts
+use Rattle.kinds.proofs.is_name.Reads as is-name-reads
+use Rattle.reader.proofs.got.Reads as got-reads
+use Rattle.reader.proofs.named.Reads as named-reads
+use Rattle.reader.proofs.peek.Reads as peek-reads
+use Rattle.reader.proofs.wrong.Reads as wrong-reads
+
+-- src/lib.rt:230:9
+peek-requires : tie.Need-peek-requires
+peek-requires c κs = search needs
+
+-- src/lib.rt:231:9
+is-name-requires : tie.Need-is-name-requires
+is-name-requires c κs = search needs
+
+-- src/lib.rt:232:9
+wrong-requires : tie.Need-wrong-requires
+wrong-requires c κs = search needs
+
+-- src/lib.rt:232:9
+returns : tie.Need-returns
+returns c = (refused (c .wrong .ensures) (omega arith), one-on-refused (c .wrong .ensures))
+
+-- src/lib.rt:234:9
+named-requires : tie.Need-named-requires
+named-requires c κs = let k : 0 < (c .before .before .before .peek .result) = name-is _ (sym (c .before .before .is-name .ensures) ∙ not-false _ (c .before .if1 .left)) in omega arith
+
+-- src/lib.rt:235:9
+add-got : tie.Need-add-got
+add-got c = search needs
+
+-- src/lib.rt:235:5
+got-requires : tie.Need-got-requires
+got-requires c κs = search needs
+
+-- src/lib.rt:226:1
+same-length : tie.Need-same-length
+same-length c = search needs
+
+-- src/lib.rt:226:1
+returns-2 : tie.Need-returns-2
+returns-2 c = let k : 0 < (c .before .before .before .before .before .before .before .peek .result) = name-is _ (sym (c .before .before .before .before .before .before .is-name .ensures) ∙ not-false _ (c .before .before .before .before .before .if1 .left)) in (ended (c .got .ensures) (omega arith), one-on-got (c .got .ensures) refl)
+
+pub name-spec : {M : Type 1} → statement M
+name-spec =
+    tie.close
+    (tie.spec
+    peek-requires
+    is-name-requires
+    wrong-requires
+    returns
+    named-requires
+    add-got
+    got-requires
+    same-length
+    returns-2)

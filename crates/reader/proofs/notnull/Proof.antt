@@ -1,0 +1,62 @@
+-- Made by `proofkit expand` from Proof.tmpl beside it: edit that file.
+use Rattle.reader.proofs.Steps.{null-got, null-refused}
+use mathlib.Core.Path.{refl}
+use native.Mathlib.Omega.{arith}
+use borrow.Author.Needs.{needs}
+use Rattle.reader.proofs.notnull.Statement.{statement}
+use Rattle.reader.proofs.notnull.Tie as tie
+use Rattle.reader.proofs.notnull.Reads as reads
+use Rattle.reader.proofs.notnull.Lts as lts
+use Rattle.reader.proofs.emit.Reads as emit-reads
+use Rattle.reader.proofs.got.Reads as got-reads
+use Rattle.reader.proofs.wrong.Reads as wrong-reads
+
+-- src/lib.rt:432:28
+sub-wrong : tie.Need-sub-wrong
+sub-wrong c = search needs
+
+-- src/lib.rt:432:9
+wrong-requires : tie.Need-wrong-requires
+wrong-requires c κs = search needs
+
+-- src/lib.rt:432:9
+returns : tie.Need-returns
+returns c = null-refused (c .wrong .ensures) refl
+
+-- src/lib.rt:434:47
+sub-emit : tie.Need-sub-emit
+sub-emit c = search needs
+
+-- src/lib.rt:434:47
+add-emit : tie.Need-add-emit
+add-emit c = search needs
+
+-- src/lib.rt:434:9
+emit-requires : tie.Need-emit-requires
+emit-requires c κs = search needs
+
+-- src/lib.rt:435:5
+got-requires : tie.Need-got-requires
+got-requires c κs = search needs
+
+-- src/lib.rt:427:1
+same-length : tie.Need-same-length
+same-length c = search needs
+
+-- src/lib.rt:427:1
+returns-2 : tie.Need-returns-2
+returns-2 c = null-got (c .got .ensures) (omega arith)
+
+pub notnull-spec : {M : Type 1} → statement M
+notnull-spec =
+    tie.close
+    (tie.spec
+    sub-wrong
+    wrong-requires
+    returns
+    sub-emit
+    add-emit
+    emit-requires
+    got-requires
+    same-length
+    returns-2)

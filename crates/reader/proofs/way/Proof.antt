@@ -1,0 +1,60 @@
+-- Made by `proofkit expand` from Proof.tmpl beside it: edit that file.
+use Rattle.reader.proofs.Steps.{further}
+use native.Mathlib.Omega.{arith}
+use borrow.Author.Needs.{needs}
+use Rattle.reader.proofs.way.Statement.{statement}
+use Rattle.reader.proofs.way.Tie as tie
+use Rattle.reader.proofs.way.Reads as reads
+use Rattle.reader.proofs.way.Lts as lts
+use Rattle.reader.proofs.nulls.Reads as nulls-reads
+use Rattle.reader.proofs.peek.Reads as peek-reads
+
+-- src/lib.rt:1409:9
+peek-requires : tie.Need-peek-requires
+peek-requires c κs = search needs
+
+-- src/lib.rt:1411:26
+add-nulls : tie.Need-add-nulls
+add-nulls c = search needs
+
+-- src/lib.rt:1411:16
+nulls-requires : tie.Need-nulls-requires
+nulls-requires c κs = search needs
+
+-- src/lib.rt:1412:27
+add-nulls-2 : tie.Need-add-nulls-2
+add-nulls-2 c = search needs
+
+-- src/lib.rt:1412:17
+nulls-requires-2 : tie.Need-nulls-requires-2
+nulls-requires-2 c κs = search needs
+
+-- src/lib.rt:1413:14
+nulls-requires-3 : tie.Need-nulls-requires-3
+nulls-requires-3 c κs = search needs
+
+-- src/lib.rt:1405:1
+returns : tie.Need-returns
+returns c = further (c .nulls .ensures) (omega arith)
+
+-- src/lib.rt:1405:1
+returns-2 : tie.Need-returns-2
+returns-2 c = further (c .nulls2 .ensures) (omega arith)
+
+-- src/lib.rt:1405:1
+returns-3 : tie.Need-returns-3
+returns-3 c = further (c .nulls3 .ensures) (omega arith)
+
+pub way-spec : {M : Type 1} → statement M
+way-spec =
+    tie.close
+    (tie.spec
+    peek-requires
+    add-nulls
+    nulls-requires
+    add-nulls-2
+    nulls-requires-2
+    nulls-requires-3
+    returns
+    returns-2
+    returns-3)

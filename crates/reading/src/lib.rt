@@ -1,0 +1,71 @@
+// A reading as the programs see it: what the reader says, and what it leaves in a node table that was clear.
+mod places;
+
+use lines::Line;
+pub use places::PLACES;
+pub use places::put;
+pub use places::read_places;
+use reader::Answer;
+
+pub struct Reading {
+    // 0 for acceptance.
+    pub number: u32,
+    pub place: usize,
+    // How many numbers of the table are the records.
+    pub used: usize,
+    // Whether all numbers beyond are still clear; else the first that is not.
+    pub kept: bool,
+    pub changed: usize,
+}
+
+// No reading yet.
+pub fn none() -> Reading {
+    Reading {
+        number: 0,
+        place: 0,
+        used: 0,
+        kept: true,
+        changed: 0,
+    }
+}
+
+// The answer, and what was left in the table.
+pub fn left(got: Answer, nodes: &[u32]) -> Reading {
+    match got {
+        Answer::Accepted(count) => beyond(0, count, nodes, report::numbers(nodes, count)),
+        Answer::Refused(n, place) => beyond(n, place, nodes, 0),
+    }
+}
+
+fn beyond(number: u32, place: usize, nodes: &[u32], used: usize) -> Reading {
+    let changed = report::changed(nodes, used);
+    Reading {
+        number,
+        place,
+        used,
+        kept: changed == nodes.len(),
+        changed,
+    }
+}
+
+fn read<'a>(kinds: &'a [u32], texts: &'a [u32], nodes: &mut [u32]) -> Reading {
+    let got = reader::read(kinds, texts, nodes);
+    left(got, nodes)
+}
+
+// The command of a line, from the lists that it was taken into, with as much of the table as it asks for.
+pub fn of_line<'a>(line: Line, kinds: &'a [u32], texts: &'a [u32], nodes: &mut [u32]) -> Reading {
+    let k = report::within(line.kinds, kinds);
+    let t = report::within(line.texts, texts);
+    let n = report::within(lines::table(line) as usize, nodes);
+    read(&kinds[..k], &texts[..t], &mut nodes[..n])
+}
+
+// Clears a table after a reading.
+pub fn clear(r: Reading, nodes: &mut [u32]) {
+    if r.kept {
+        report::clear(nodes, r.used);
+    } else {
+        report::clear(nodes, nodes.len());
+    }
+}

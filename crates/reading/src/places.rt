@@ -1,0 +1,29 @@
+// Commands in tables of 4,096 places, which are clear at first.
+ghost use mathlib.Core.Path.{_≡_};
+ghost use Rattle.reading.specs.Places.{placed};
+use reader::Answer;
+
+pub const PLACES: usize = 4096;
+
+// A number into a table, where it has the place.
+pub fn put(list: &mut [u32; PLACES], at: usize, n: u32)
+    ensures { λ _. ⌜ now (list .exit) ≡ placed (now (list .entry)) at n ⌝ }
+{
+    if at < PLACES {
+        list[at] = n;
+    }
+}
+
+// Reads the first `count` tokens.
+pub fn read_places<'a>(
+    kinds: &'a [u32; PLACES],
+    texts: &'a [u32; PLACES],
+    count: usize,
+    nodes: &mut [u32; PLACES],
+) -> Answer {
+    let k: &[u32] = kinds;
+    let t: &[u32] = texts;
+    let n = report::within(count, k);
+    let m = report::within(count, t);
+    reader::read(&k[..n], &t[..m], nodes)
+}

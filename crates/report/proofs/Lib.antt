@@ -1,0 +1,2 @@
+pub mod TableSteps
+pub mod DigestSteps
