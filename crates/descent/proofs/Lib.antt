@@ -58,6 +58,10 @@ pub mod RowsOfValues
 pub mod Sorting
 pub mod Limiting
 pub mod Query
+-- Tables that the walk fills:
+pub mod Filling
 -- The whole:
 pub mod Everything
 pub mod Whole
+-- What the reader will rest on:
+pub mod Answers

@@ -3,3 +3,4 @@ pub mod Places
 pub mod Named
 pub mod Grown
 pub mod Walk
+pub mod Filling
