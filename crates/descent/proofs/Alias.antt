@@ -18,9 +18,9 @@ use Rattle.grammar.specs.Grammar.{sql}
 use Rattle.grammar.specs.Limits.{Around, isQuery, below}
 use Rattle.grammar.specs.Nodes.{count, records}
 use Rattle.grammar.specs.Reading.{empty, side, says, opt, name, rules, ruled, valueOf, value, values}
-use Rattle.descent.specs.Places.{kindAt, tokAt}
-use Rattle.descent.specs.Walk.{Walked, missing, nameRec, nameW, aliasW}
-use Rattle.descent.specs.Grown.{recs}
+use Rattle.descent.proofs.Places.{kindAt, tokAt}
+use Rattle.descent.proofs.Walk.{Walked, missing, nameRec, nameW, aliasW}
+use Rattle.descent.proofs.Grown.{recs}
 use Rattle.descent.proofs.SameRow.{eqNt, eqItem, eqItems, eqRow, eqFound}
 use Rattle.descent.proofs.ClassFacts.{firsts-Alias, Alias-at-AS, Alias-may}
 use Rattle.descent.proofs.Means.{Single, Good, Reads}

@@ -21,9 +21,9 @@ use Rattle.grammar.specs.Nodes.{Rec, laid}
 use Rattle.grammar.specs.Promise.{tokens, Lent, Fit, AllFit, recordsOf, Reads}
 use Rattle.grammar.proofs.Checked.{sql-laws}
 use Rattle.grammar.proofs.Promised.{parsed, answered, found, roomB, Is, is-answered, choose-true, choose-false, not-true}
-use Rattle.descent.specs.Places.{Sound}
-use Rattle.descent.specs.Walk.{done, stop, commandW}
-use Rattle.descent.specs.Filling.{fill}
+use Rattle.descent.proofs.Places.{Sound}
+use Rattle.descent.proofs.Walk.{done, stop, commandW}
+use Rattle.descent.proofs.Fill.{fill}
 use Rattle.descent.proofs.Means.{ToldCase, Good}
 use Rattle.descent.proofs.Filling.{filled-laid}
 use Rattle.descent.proofs.Whole.{walk-is-grammar}

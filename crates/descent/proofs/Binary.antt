@@ -9,8 +9,8 @@ use Rattle.theory.specs.Trees.{lit, nt, nil, add, leaf}
 use Rattle.theory.proofs.Cases.{eqb-eq}
 use Rattle.kinds.specs.Kinds.{AND}
 use Rattle.grammar.specs.Classes.{E}
-use Rattle.descent.specs.Places.{kindAt, tokAt, wrong, rests}
-use Rattle.descent.specs.Walk.{over, wrongAt, exprW, afterW}
+use Rattle.descent.proofs.Places.{kindAt, tokAt, wrong, rests}
+use Rattle.descent.proofs.Walk.{over, wrongAt, exprW, afterW}
 use Rattle.descent.proofs.Steps.{nt-got, nt-refused, lit-got, lit-wrong}
 use Rattle.descent.proofs.Means.{Good, ExprOK, BinaryOK, BetweenOK, AfterOK}
 use Rattle.descent.proofs.Common.{told-bind, told-map, told-choose, told-done, told-stop, expr-got, no-word}

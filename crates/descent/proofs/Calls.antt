@@ -22,10 +22,10 @@ use Rattle.grammar.specs.Grammar.{sql}
 use Rattle.grammar.specs.Limits.{Around, isQuery, below, judge}
 use Rattle.grammar.specs.Nodes.{count, beside, Rec, rec, records}
 use Rattle.grammar.specs.Reading.{Val, empty, side, cat, one, name, rules, ruled, valueOf, value, _#_}
-use Rattle.descent.specs.Places.{kindAt, tokAt, from, wrong, OpenRow, rests}
-use Rattle.descent.specs.Named.{namesRow, own}
-use Rattle.descent.specs.Walk.{Walked, notB, calledW, exprW, listW, callW}
-use Rattle.descent.specs.Grown.{recs}
+use Rattle.descent.proofs.Places.{kindAt, tokAt, from, wrong, OpenRow, rests}
+use Rattle.descent.proofs.Named.{namesRow, own}
+use Rattle.descent.proofs.Walk.{Walked, notB, calledW, exprW, listW, callW}
+use Rattle.descent.proofs.Grown.{recs}
 use Rattle.descent.proofs.Steps.{nt-got, nt-refused, lit-got, lit-wrong, call-in, call-absent, row-stop}
 use Rattle.descent.proofs.Growing.{recs-one}
 use Rattle.descent.proofs.ClassFacts.{none-of-2, Args-at-STAR, Args-at-DISTINCT, Args-at-RP, Args-may}

@@ -18,10 +18,10 @@ use Rattle.grammar.specs.Rows.{exprs}
 use Rattle.grammar.specs.Limits.{below}
 use Rattle.grammar.specs.Nodes.{count}
 use Rattle.grammar.specs.Reading.{Val, empty, side, one, opt, value, _#_}
-use Rattle.descent.specs.Places.{kindAt, tokAt, wrong, OpenRow}
-use Rattle.descent.specs.Named.{caseRow, own}
-use Rattle.descent.specs.Walk.{missing, exprW, baseW, whensW, clauseW}
-use Rattle.descent.specs.Grown.{recsAll, recs}
+use Rattle.descent.proofs.Places.{kindAt, tokAt, wrong, OpenRow}
+use Rattle.descent.proofs.Named.{caseRow, own}
+use Rattle.descent.proofs.Walk.{missing, exprW, baseW, whensW, clauseW}
+use Rattle.descent.proofs.Grown.{recsAll, recs}
 use Rattle.descent.proofs.Steps.{nt-got, nt-refused, lit-got, lit-wrong, call-absent}
 use Rattle.descent.proofs.Growing.{side-cons, side-append}
 use Rattle.descent.proofs.ClassFacts.{Base-at-WHEN, Base-may}

@@ -14,9 +14,9 @@ use Rattle.grammar.specs.RowNames.{row-cast}
 use Rattle.grammar.specs.NodeNames.{node-cast}
 use Rattle.grammar.specs.Nodes.{beside}
 use Rattle.grammar.specs.Reading.{empty, side, one, value}
-use Rattle.descent.specs.Places.{kindAt, tokAt, wrong, OpenRow}
-use Rattle.descent.specs.Named.{castRow}
-use Rattle.descent.specs.Walk.{nameW, exprW, afterW}
+use Rattle.descent.proofs.Places.{kindAt, tokAt, wrong, OpenRow}
+use Rattle.descent.proofs.Named.{castRow}
+use Rattle.descent.proofs.Walk.{nameW, exprW, afterW}
 use Rattle.descent.proofs.Steps.{nt-got, nt-refused, lit-got, lit-wrong}
 use Rattle.descent.proofs.Rules.{known, value-cast}
 use Rattle.descent.proofs.Means.{Good, AfterOK, CastOK}

@@ -19,8 +19,8 @@ use Rattle.grammar.specs.Rows.{part}
 use Rattle.grammar.specs.Grammar.{sql}
 use Rattle.grammar.specs.Limits.{isQuery}
 use Rattle.grammar.specs.Reading.{Val, empty, valueOf, value, _#_}
-use Rattle.descent.specs.Places.{kindAt, tokAt, OpenRow, rests}
-use Rattle.descent.specs.Walk.{missing, exprW}
+use Rattle.descent.proofs.Places.{kindAt, tokAt, OpenRow, rests}
+use Rattle.descent.proofs.Walk.{missing, exprW}
 use Rattle.descent.proofs.Steps.{nt-got, nt-refused, call-in, call-absent, row-stop}
 use Rattle.descent.proofs.ClassFacts.{out, none-of-1, firsts-Where, Where-at-WHERE, Where-may, firsts-Having, Having-at-HAVING, Having-may, firsts-Else, Else-at-ELSE, Else-may}
 use Rattle.descent.proofs.Rules.{known, value-where, value-having, value-else}

@@ -23,10 +23,10 @@ use Rattle.grammar.specs.Grammar.{sql}
 use Rattle.grammar.specs.Limits.{Around, isQuery, below, judge}
 use Rattle.grammar.specs.Nodes.{count, Rec, rec, records}
 use Rattle.grammar.specs.Reading.{Val, empty, side, one, choose, none-there, name, NAME-STAR, column, value, _#_}
-use Rattle.descent.specs.Places.{kindAt, tokAt, from, calls, rests, again}
-use Rattle.descent.specs.Named.{own}
-use Rattle.descent.specs.Walk.{Walked, done, bind, missing, notB, over, nameRec, nameW, aliasW, exprW, columnsW, columnW}
-use Rattle.descent.specs.Grown.{recs}
+use Rattle.descent.proofs.Places.{kindAt, tokAt, from, calls, rests, again}
+use Rattle.descent.proofs.Named.{own}
+use Rattle.descent.proofs.Walk.{Walked, done, bind, missing, notB, over, nameRec, nameW, aliasW, exprW, columnsW, columnW}
+use Rattle.descent.proofs.Grown.{recs}
 use Rattle.descent.proofs.SameRow.{eqNt, eqItem, eqItems, eqRow, eqFound, same-found, below?, throughout}
 use Rattle.descent.proofs.TableFacts.{BOUND}
 use Rattle.descent.proofs.Steps.{nt-got, nt-refused, call-in, row-stop}

@@ -22,10 +22,10 @@ use Rattle.grammar.specs.Grammar.{sql}
 use Rattle.grammar.specs.Limits.{Around, isQuery, begun, judge}
 use Rattle.grammar.specs.Nodes.{Rec}
 use Rattle.grammar.specs.Reading.{choose, column, value}
-use Rattle.descent.specs.Places.{kindAt, from, calls, again}
-use Rattle.descent.specs.Named.{own}
-use Rattle.descent.specs.Walk.{Walked, done, stop, spent, bind, onto, exprW}
-use Rattle.descent.specs.Grown.{recs}
+use Rattle.descent.proofs.Places.{kindAt, from, calls, again}
+use Rattle.descent.proofs.Named.{own}
+use Rattle.descent.proofs.Walk.{Walked, done, stop, spent, bind, onto, exprW}
+use Rattle.descent.proofs.Grown.{recs}
 use Rattle.descent.proofs.TableFacts.{cont-tight, cont-loose, cont-none}
 use Rattle.descent.proofs.Steps.{row-stop}
 use Rattle.descent.proofs.ClassFacts.{E-may}

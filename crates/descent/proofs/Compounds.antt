@@ -18,10 +18,10 @@ use Rattle.kinds.specs.Classes.{isName, literalCode}
 use Rattle.grammar.specs.Sizes.{LEVELS}
 use Rattle.grammar.specs.Limits.{Around, isQuery}
 use Rattle.grammar.specs.Reading.{value}
-use Rattle.descent.specs.Places.{kindAt, tokAt, wrong, OpenRow, calls, rests, again}
-use Rattle.descent.specs.Named.{parensRow, existsRow, caseRow, castRow, headRow, own}
-use Rattle.descent.specs.Walk.{Walked, deeper, notB, κ, wrongAt, exprW, prefixW, parenW, existsW, caseW, castW}
-use Rattle.descent.specs.Grown.{recs}
+use Rattle.descent.proofs.Places.{kindAt, tokAt, wrong, OpenRow, calls, rests, again}
+use Rattle.descent.proofs.Named.{parensRow, existsRow, caseRow, castRow, headRow, own}
+use Rattle.descent.proofs.Walk.{Walked, deeper, notB, κ, wrongAt, exprW, prefixW, parenW, existsW, caseW, castW}
+use Rattle.descent.proofs.Grown.{recs}
 use Rattle.descent.proofs.SameRow.{below?, throughout}
 use Rattle.descent.proofs.TableFacts.{BOUND}
 use Rattle.descent.proofs.Means.{plainCode, Exprd, Takes, Told, Good, CompoundOK, PrefixOK, RowOK, ParenOK, ExistsOK, CaseOK, CastOK}

@@ -20,7 +20,7 @@ use Rattle.grammar.specs.Grammar.{sql, G}
 use Rattle.grammar.specs.Rows.{butColumn, exprs, selectItems, valuesItems, lines, headsOf, tailsOf}
 use Rattle.grammar.specs.Limits.{Around, below, under, judge}
 use Rattle.grammar.specs.Promise.{tokens}
-use Rattle.descent.specs.Places.{kindAt, tokAt, from, wrong, Sound, OpenRow, calls, rests}
+use Rattle.descent.proofs.Places.{kindAt, tokAt, from, wrong, Sound, OpenRow, calls, rests}
 
 plus-one : (n : ℕ) → n + 1 ≡ suc n
 plus-one n = omega arith

@@ -1,7 +1,7 @@
 -- Every part of the walk means what the grammar says, for every fuel (all). Assumes nothing.
 use mathlib.Core.List.{List}
 use Prim.Native.Nat.{ℕ, zero, suc}
-use Rattle.descent.specs.Walk.{exprW}
+use Rattle.descent.proofs.Walk.{exprW}
 use Rattle.descent.proofs.Means.{Good, All}
 use Rattle.descent.proofs.Common.{told-spent}
 use Rattle.descent.proofs.Names.{names-ok}

@@ -20,10 +20,10 @@ use Rattle.grammar.specs.Grammar.{sql}
 use Rattle.grammar.specs.Limits.{Around}
 use Rattle.grammar.specs.Nodes.{Rec}
 use Rattle.grammar.specs.Reading.{column, value}
-use Rattle.descent.specs.Places.{kindAt, tokAt, from, wrong, calls, rests, again}
-use Rattle.descent.specs.Named.{headRow, own}
-use Rattle.descent.specs.Walk.{exprW}
-use Rattle.descent.specs.Grown.{recs}
+use Rattle.descent.proofs.Places.{kindAt, tokAt, from, wrong, calls, rests, again}
+use Rattle.descent.proofs.Named.{headRow, own}
+use Rattle.descent.proofs.Walk.{exprW}
+use Rattle.descent.proofs.Grown.{recs}
 use Rattle.descent.proofs.TableFacts.{BOUND, heads-in}
 use Rattle.descent.proofs.Steps.{call-absent, call-wrong, row-on}
 use Rattle.descent.proofs.ClassFacts.{E-may}

@@ -23,9 +23,9 @@ use Rattle.grammar.specs.Sizes.{LEVELS}
 use Rattle.grammar.specs.Limits.{Around, begun, judge}
 use Rattle.grammar.specs.Nodes.{Rec}
 use Rattle.grammar.specs.Reading.{choose}
-use Rattle.descent.specs.Places.{kindAt, tokAt, wrong, calls}
-use Rattle.descent.specs.Named.{prefixRow, restOf, headRow, own}
-use Rattle.descent.specs.Walk.{stop, wrongAt, tooDeepW, exprW, leafW, compoundW, opsW}
+use Rattle.descent.proofs.Places.{kindAt, tokAt, wrong, calls}
+use Rattle.descent.proofs.Named.{prefixRow, restOf, headRow, own}
+use Rattle.descent.proofs.Walk.{stop, wrongAt, tooDeepW, exprW, leafW, compoundW, opsW}
 use Rattle.descent.proofs.SameRow.{below?, throughout}
 use Rattle.descent.proofs.TableFacts.{BOUND}
 use Rattle.descent.proofs.Steps.{call-word}

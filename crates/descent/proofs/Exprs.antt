@@ -14,9 +14,9 @@ use Rattle.grammar.specs.Grammar.{sql}
 use Rattle.grammar.specs.Limits.{Around, isQuery}
 use Rattle.grammar.specs.Nodes.{count}
 use Rattle.grammar.specs.Reading.{value}
-use Rattle.descent.specs.Places.{tokAt, from, calls}
-use Rattle.descent.specs.Walk.{exprW, listW}
-use Rattle.descent.specs.Grown.{recs}
+use Rattle.descent.proofs.Places.{tokAt, from, calls}
+use Rattle.descent.proofs.Walk.{exprW, listW}
+use Rattle.descent.proofs.Grown.{recs}
 use Rattle.descent.proofs.ClassFacts.{firsts-Exprs, Exprs-at-COMMA, Exprs-may}
 use Rattle.descent.proofs.Rules.{value-next-expr}
 use Rattle.descent.proofs.Means.{ExprTree, Told, Good, nextExpr, ExprOK, ExprsOK, ListOK}

@@ -7,7 +7,7 @@ use lib.ListN.{length, set, length-set, length-append, take, drop, take-append-d
 use native.Mathlib.Omega.{arith}
 use Rattle.grammar.specs.Sizes.{WIDTH}
 use Rattle.grammar.specs.Nodes.{Rec, rec, numbers, laid}
-use Rattle.descent.specs.Filling.{put, fill, Filled}
+use Rattle.descent.proofs.Fill.{put, fill, Filled}
 
 length-fill : (N : List ℕ) (m : ℕ) (rs : List Rec) → length (fill N m rs) ≡ length N
 unfolding fill

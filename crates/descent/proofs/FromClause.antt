@@ -18,9 +18,9 @@ use Rattle.grammar.specs.Limits.{isQuery, below}
 use Rattle.grammar.specs.Nodes.{count, Rec, records}
 use Rattle.grammar.specs.Reading.{Val, empty, one, opt, rules, ruled, valueOf, value, values}
 use Rattle.theory.proofs.Lists.{more}
-use Rattle.descent.specs.Places.{kindAt, tokAt}
-use Rattle.descent.specs.Walk.{missing, over, fromW, joinsW, sourceW}
-use Rattle.descent.specs.Grown.{recs}
+use Rattle.descent.proofs.Places.{kindAt, tokAt}
+use Rattle.descent.proofs.Walk.{missing, over, fromW, joinsW, sourceW}
+use Rattle.descent.proofs.Grown.{recs}
 use Rattle.descent.proofs.Steps.{nt-got, nt-refused}
 use Rattle.descent.proofs.ClassFacts.{none-of-1, firsts-From, From-at-FROM, From-may}
 use Rattle.descent.proofs.Means.{Single, Good, FromOK, SourceOK, JoinsOK}

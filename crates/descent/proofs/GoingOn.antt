@@ -15,10 +15,10 @@ use Rattle.kinds.specs.Strength.{strengthOf}
 use Rattle.grammar.specs.Rows.{operator}
 use Rattle.grammar.specs.Limits.{Around}
 use Rattle.grammar.specs.Reading.{value}
-use Rattle.descent.specs.Places.{kindAt, tokAt, OpenRow, rests, again}
-use Rattle.descent.specs.Named.{opRow}
-use Rattle.descent.specs.Walk.{done, bind, onto, deeper, exprW, opsW, operatorW}
-use Rattle.descent.specs.Grown.{recs}
+use Rattle.descent.proofs.Places.{kindAt, tokAt, OpenRow, rests, again}
+use Rattle.descent.proofs.Named.{opRow}
+use Rattle.descent.proofs.Walk.{done, bind, onto, deeper, exprW, opsW, operatorW}
+use Rattle.descent.proofs.Grown.{recs}
 use Rattle.descent.proofs.TableFacts.{op-str, cont-op}
 use Rattle.descent.proofs.Steps.{row-on}
 use Rattle.descent.proofs.Means.{ExprTree, Exprd, Takes, Told, Good, Stops, OpsOK, OperatorOK}

@@ -7,7 +7,7 @@ use lib.ListN.{length, length-append}
 use native.Mathlib.Omega.{arith}
 use Rattle.grammar.specs.Nodes.{Nodes, end, mk, count, beside, Rec, rec, records}
 use Rattle.grammar.specs.Reading.{Val, side, one}
-use Rattle.descent.specs.Grown.{put, fill, Grown, recsAll, recs}
+use Rattle.descent.proofs.Grown.{put, fill, Grown, recsAll, recs}
 
 fill-append : (N : List ℕ) (m : ℕ) (rs ss : List Rec) → fill N m (rs ++ ss) ≡ fill (fill N m rs) (m + length rs) ss
 unfolding fill

@@ -19,9 +19,9 @@ use Rattle.grammar.specs.Rows.{exprs}
 use Rattle.grammar.specs.Grammar.{sql}
 use Rattle.grammar.specs.Sizes.{LEVELS}
 use Rattle.grammar.specs.Limits.{Around, isQuery}
-use Rattle.descent.specs.Places.{kindAt, tokAt, wrong, calls, rests}
-use Rattle.descent.specs.Named.{restOf, headRow, own}
-use Rattle.descent.specs.Walk.{notB}
+use Rattle.descent.proofs.Places.{kindAt, tokAt, wrong, calls, rests}
+use Rattle.descent.proofs.Named.{restOf, headRow, own}
+use Rattle.descent.proofs.Walk.{notB}
 use Rattle.descent.proofs.SameRow.{below?, throughout}
 use Rattle.descent.proofs.TableFacts.{BOUND, heads-in}
 use Rattle.descent.proofs.Steps.{call-in, call-wrong}

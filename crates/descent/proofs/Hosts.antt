@@ -21,10 +21,10 @@ use Rattle.grammar.specs.Grammar.{sql}
 use Rattle.grammar.specs.Limits.{Around, isQuery, below}
 use Rattle.grammar.specs.Nodes.{count, beside, records}
 use Rattle.grammar.specs.Reading.{side, isEnd, valueOf, value, values}
-use Rattle.descent.specs.Places.{kindAt, tokAt, OpenRow, rests}
-use Rattle.descent.specs.Named.{own}
-use Rattle.descent.specs.Walk.{Walked, notB, exprW, listW}
-use Rattle.descent.specs.Grown.{recs}
+use Rattle.descent.proofs.Places.{kindAt, tokAt, OpenRow, rests}
+use Rattle.descent.proofs.Named.{own}
+use Rattle.descent.proofs.Walk.{Walked, notB, exprW, listW}
+use Rattle.descent.proofs.Grown.{recs}
 use Rattle.descent.proofs.SameRow.{eqNt, eqItem, eqItems, eqRow, eqFound, same-found}
 use Rattle.descent.proofs.Steps.{nt-got, nt-refused, lit-wrong, row-stop}
 use Rattle.descent.proofs.ClassFacts.{none-of-1}

@@ -19,10 +19,10 @@ use Rattle.grammar.specs.Rows.{part, exprs, selectItems, valuesItems}
 use Rattle.grammar.specs.Limits.{isQuery}
 use Rattle.grammar.specs.Nodes.{count, beside, Rec, rec, records}
 use Rattle.grammar.specs.Reading.{Val, side, one, choose, isQueryVal, inside, value}
-use Rattle.descent.specs.Places.{kindAt, tokAt, wrong, OpenRow, calls, rests}
-use Rattle.descent.specs.Named.{own}
-use Rattle.descent.specs.Walk.{Walked, done, over, wrongAt, endedW, exprW, listW, queryW}
-use Rattle.descent.specs.Grown.{recs}
+use Rattle.descent.proofs.Places.{kindAt, tokAt, wrong, OpenRow, calls, rests}
+use Rattle.descent.proofs.Named.{own}
+use Rattle.descent.proofs.Walk.{Walked, done, over, wrongAt, endedW, exprW, listW, queryW}
+use Rattle.descent.proofs.Grown.{recs}
 use Rattle.descent.proofs.Steps.{nt-got, nt-refused, lit-got, lit-wrong, call-absent, row-stop}
 use Rattle.descent.proofs.ClassFacts.{none-of-2, Inside-at-SELECT, Inside-at-VALUES, Inside-at-RP, Inside-may}
 use Rattle.descent.proofs.Means.{Single, plainCode, Told, Good, QueryNode, InsideOK, HostOK, QueryOK}

@@ -21,8 +21,8 @@ use Rattle.grammar.specs.Grammar.{sql}
 use Rattle.grammar.specs.Limits.{Around, isQuery, below, furtherFlags, isKind, judge}
 use Rattle.grammar.specs.Reading.{says, choose, rules, ruled, valueOf, value, values, _#_}
 use Rattle.words.proofs.OrderDoesNotMatter.{united-assoc}
-use Rattle.descent.specs.Places.{kindAt, tokAt, from, wrong, OpenRow, calls, rests}
-use Rattle.descent.specs.Walk.{Walked, done, stop, wrongAt, joinW}
+use Rattle.descent.proofs.Places.{kindAt, tokAt, from, wrong, OpenRow, calls, rests}
+use Rattle.descent.proofs.Walk.{Walked, done, stop, wrongAt, joinW}
 use Rattle.descent.proofs.Steps.{nt-got, lit-got, lit-word, lit-wrong}
 use Rattle.descent.proofs.ClassFacts.{none-of-1, firsts-Word2, Word2-at-JOIN-KW, Word2-may, firsts-Word3, Word3-at-JOIN-KW, Word3-may}
 use Rattle.descent.proofs.Means.{Told, Good}

@@ -23,9 +23,9 @@ use Rattle.grammar.specs.Limits.{Around, isQuery, below}
 use Rattle.grammar.specs.Nodes.{count, Rec, records}
 use Rattle.grammar.specs.Reading.{Val, cat, one, says, choose, opt, rules, ruled, valueOf, value, values, _#_}
 use Rattle.theory.proofs.Lists.{Lists, linesOf, ListTest, lists, Begun, more}
-use Rattle.descent.specs.Places.{kindAt, tokAt, from, rests}
-use Rattle.descent.specs.Walk.{bind, onto, over, joinW, joinedW, joinsW, onW, sourceW}
-use Rattle.descent.specs.Grown.{recs}
+use Rattle.descent.proofs.Places.{kindAt, tokAt, from, rests}
+use Rattle.descent.proofs.Walk.{bind, onto, over, joinW, joinedW, joinsW, onW, sourceW}
+use Rattle.descent.proofs.Grown.{recs}
 use Rattle.descent.proofs.Steps.{nt-got, nt-refused}
 use Rattle.descent.proofs.ClassFacts.{out, firsts-Joins, Joins-at-COMMA, Joins-at-JOIN, Joins-at-JOIN-KW, Joins-may}
 use Rattle.descent.proofs.Means.{Single, Told, Good, goesOn, SourceOK, JoinsOK, OnOK}

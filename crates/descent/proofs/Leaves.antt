@@ -23,10 +23,10 @@ use Rattle.grammar.specs.Rows.{ending}
 use Rattle.grammar.specs.Limits.{Around, isQuery, below}
 use Rattle.grammar.specs.Nodes.{count, beside, Rec, rec, records}
 use Rattle.grammar.specs.Reading.{empty, side, says, choose, name, rules, ruled, valueOf, value, _#_}
-use Rattle.descent.specs.Places.{kindAt, tokAt, from, OpenRow, calls, rests, again}
-use Rattle.descent.specs.Named.{literalRow, namesRow, restOf, headRow}
-use Rattle.descent.specs.Walk.{done, onto, deeper, notB, nameRec, dotsW, dottedW, exprW, callW}
-use Rattle.descent.specs.Grown.{recs}
+use Rattle.descent.proofs.Places.{kindAt, tokAt, from, OpenRow, calls, rests, again}
+use Rattle.descent.proofs.Named.{literalRow, namesRow, restOf, headRow}
+use Rattle.descent.proofs.Walk.{done, onto, deeper, notB, nameRec, dotsW, dottedW, exprW, callW}
+use Rattle.descent.proofs.Grown.{recs}
 use Rattle.descent.proofs.SameRow.{below?, throughout}
 use Rattle.descent.proofs.TableFacts.{BOUND}
 use Rattle.descent.proofs.Steps.{nt-got, nt-refused, call-in, call-absent, row-stop}

@@ -1,3 +1,9 @@
+-- What the laws speak of: places in a list, rows that are open, the reader's walk, and records in a table:
+pub mod Places
+pub mod Named
+pub mod Grown
+pub mod Walk
+pub mod Fill
 -- The table and its rows, as recursive descent meets them:
 pub mod Equations
 pub mod SameRow

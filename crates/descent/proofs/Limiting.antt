@@ -20,9 +20,9 @@ use Rattle.grammar.specs.Grammar.{sql}
 use Rattle.grammar.specs.Limits.{Around, isQuery}
 use Rattle.grammar.specs.Nodes.{Nodes, end, count, beside, records}
 use Rattle.grammar.specs.Reading.{Val, side, choose, isEnd, none-there, opt, limitAndOffset, rules, ruled, valueOf, value, _#_}
-use Rattle.descent.specs.Places.{kindAt, tokAt, from, OpenRow, calls, rests}
-use Rattle.descent.specs.Walk.{done, onto, missing, exprW, orderW, limitW}
-use Rattle.descent.specs.Grown.{recs}
+use Rattle.descent.proofs.Places.{kindAt, tokAt, from, OpenRow, calls, rests}
+use Rattle.descent.proofs.Walk.{done, onto, missing, exprW, orderW, limitW}
+use Rattle.descent.proofs.Grown.{recs}
 use Rattle.descent.proofs.Steps.{nt-got, nt-refused, call-in, call-absent, row-stop}
 use Rattle.descent.proofs.Growing.{records-beside, count-beside}
 use Rattle.descent.proofs.ClassFacts.{out, none-of-1, none-of-2, firsts-Order, Order-at-ORDER, Order-may, firsts-Limit, Limit-at-LIMIT, Limit-may, firsts-Offset, Offset-at-OFFSET, Offset-at-COMMA, Offset-may}

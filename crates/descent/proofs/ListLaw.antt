@@ -19,9 +19,9 @@ use Rattle.grammar.specs.Grammar.{sql}
 use Rattle.grammar.specs.Limits.{Around, isQuery, below, members}
 use Rattle.grammar.specs.Nodes.{count, records}
 use Rattle.grammar.specs.Reading.{Val, side, choose, valueOf, value}
-use Rattle.descent.specs.Places.{kindAt, tokAt, from, OpenRow, calls, rests}
-use Rattle.descent.specs.Walk.{Walked, done, bind, onto, κ}
-use Rattle.descent.specs.Grown.{recs}
+use Rattle.descent.proofs.Places.{kindAt, tokAt, from, OpenRow, calls, rests}
+use Rattle.descent.proofs.Walk.{Walked, done, bind, onto, κ}
+use Rattle.descent.proofs.Grown.{recs}
 use Rattle.descent.proofs.Steps.{nt-got, nt-refused, call-in, call-absent, row-on, row-stop}
 use Rattle.descent.proofs.ClassFacts.{out, none-of-1}
 use Rattle.descent.proofs.Means.{Told, Good, Further}

@@ -12,7 +12,7 @@ use Rattle.theory.proofs.Lists.{Lists, Begun, more}
 use Rattle.grammar.specs.Classes.{any}
 use Rattle.grammar.specs.Grammar.{sql, G}
 use Rattle.grammar.specs.Limits.{Around, isQuery}
-use Rattle.descent.specs.Places.{kindAt, tokAt, from, OpenRow, rests}
+use Rattle.descent.proofs.Places.{kindAt, tokAt, from, OpenRow, rests}
 use Rattle.descent.proofs.Steps.{call-absent, row-on, row-stop}
 use Rattle.descent.proofs.Means.{Good, goesOn}
 use Rattle.descent.proofs.Common.{goes-no-word}

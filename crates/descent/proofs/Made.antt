@@ -10,9 +10,9 @@ use Rattle.grammar.specs.NodeNames.{node-binary}
 use Rattle.grammar.specs.Limits.{Around, below}
 use Rattle.grammar.specs.Nodes.{Nodes, count, Rec, records}
 use Rattle.grammar.specs.Reading.{Val, side, one, value}
-use Rattle.descent.specs.Places.{OpenRow}
-use Rattle.descent.specs.Walk.{over, binaryW}
-use Rattle.descent.specs.Grown.{recs}
+use Rattle.descent.proofs.Places.{OpenRow}
+use Rattle.descent.proofs.Walk.{over, binaryW}
+use Rattle.descent.proofs.Grown.{recs}
 use Rattle.descent.proofs.Steps.{nt-got, nt-refused}
 use Rattle.descent.proofs.Means.{Single, Good, Goes, BinaryOK}
 use Rattle.descent.proofs.Common.{told-map}

@@ -24,10 +24,10 @@ use Rattle.grammar.specs.Limits.{Around, isQuery, below, under, members, width,
 use Rattle.grammar.specs.Nodes.{Nodes, end, mk, count, Rec, rec, records}
 use Rattle.grammar.specs.Reading.{Val, one, says, choose, isEnd, opt, name, isQueryVal, NAME-STAR, column, limitAndOffset, group, inside, valueOf, value, values}
 use Rattle.theory.proofs.Lists.{Begun, more}
-use Rattle.descent.specs.Places.{tokAt, from, Sound, OpenRow, calls, rests, again}
-use Rattle.descent.specs.Named.{notRow, opRow, parensRow, existsRow, caseRow, castRow, namesRow, own}
-use Rattle.descent.specs.Walk.{Walked, done, stop, spent, opening, notB, over, κ, namesW, exprW, leafW, compoundW, opsW, operatorW, negatedW, binaryW, betweenW, afterW, insideW, listW, prefixW, callW, parenW, bracketedW, existsW, caseW, baseW, whensW, castW, queryW, bodyW, tailW, valuesW, rowW, selectW, selectedW, clausesW, clauseW, groupW, columnsW, columnW, fromW, joinsW, onW, sourceW, orderW, termsW, limitW}
-use Rattle.descent.specs.Grown.{recs}
+use Rattle.descent.proofs.Places.{tokAt, from, Sound, OpenRow, calls, rests, again}
+use Rattle.descent.proofs.Named.{notRow, opRow, parensRow, existsRow, caseRow, castRow, namesRow, own}
+use Rattle.descent.proofs.Walk.{Walked, done, stop, spent, opening, notB, over, κ, namesW, exprW, leafW, compoundW, opsW, operatorW, negatedW, binaryW, betweenW, afterW, insideW, listW, prefixW, callW, parenW, bracketedW, existsW, caseW, baseW, whensW, castW, queryW, bodyW, tailW, valuesW, rowW, selectW, selectedW, clausesW, clauseW, groupW, columnsW, columnW, fromW, joinsW, onW, sourceW, orderW, termsW, limitW}
+use Rattle.descent.proofs.Grown.{recs}
 
 -- ── trees ──
 -- one node

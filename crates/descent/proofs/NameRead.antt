@@ -20,8 +20,8 @@ use Rattle.grammar.specs.Grammar.{sql}
 use Rattle.grammar.specs.Limits.{Around, isQuery}
 use Rattle.grammar.specs.Nodes.{Rec}
 use Rattle.grammar.specs.Reading.{choose}
-use Rattle.descent.specs.Places.{kindAt, tokAt, from, wrong, calls}
-use Rattle.descent.specs.Walk.{Walked, done, bind, wrongAt, nameRec, nameW}
+use Rattle.descent.proofs.Places.{kindAt, tokAt, from, wrong, calls}
+use Rattle.descent.proofs.Walk.{Walked, done, bind, wrongAt, nameRec, nameW}
 use Rattle.descent.proofs.SameRow.{eqNt, eqItem, eqItems, eqRow, eqFound, same-found, below?, throughout}
 use Rattle.descent.proofs.TableFacts.{BOUND}
 use Rattle.descent.proofs.Steps.{call-wrong}

@@ -16,9 +16,9 @@ use Rattle.grammar.specs.Limits.{Around, isQuery, below}
 use Rattle.grammar.specs.Nodes.{rec}
 use Rattle.grammar.specs.Reading.{value}
 use Rattle.theory.proofs.Tested.{kindsOf}
-use Rattle.descent.specs.Places.{kindAt, tokAt, from, wrong, calls}
-use Rattle.descent.specs.Walk.{nameRec, nameW, namesW}
-use Rattle.descent.specs.Grown.{recs}
+use Rattle.descent.proofs.Places.{kindAt, tokAt, from, wrong, calls}
+use Rattle.descent.proofs.Walk.{nameRec, nameW, namesW}
+use Rattle.descent.proofs.Grown.{recs}
 use Rattle.descent.proofs.ClassFacts.{firsts-Names, Names-at-COMMA, Names-may}
 use Rattle.descent.proofs.Rules.{value-next-name}
 use Rattle.descent.proofs.Means.{Single, Told, Good, Reads, Further, NamesOK}

@@ -22,10 +22,10 @@ use Rattle.grammar.specs.Grammar.{sql}
 use Rattle.grammar.specs.Limits.{Around, isQuery, below}
 use Rattle.grammar.specs.Nodes.{count, beside, Rec, rec, records}
 use Rattle.grammar.specs.Reading.{side, rules, ruled, valueOf, value}
-use Rattle.descent.specs.Places.{kindAt, tokAt, from, wrong, OpenRow, calls, rests}
-use Rattle.descent.specs.Named.{restOf}
-use Rattle.descent.specs.Walk.{over, nameRec, dotsW}
-use Rattle.descent.specs.Grown.{recs}
+use Rattle.descent.proofs.Places.{kindAt, tokAt, from, wrong, OpenRow, calls, rests}
+use Rattle.descent.proofs.Named.{restOf}
+use Rattle.descent.proofs.Walk.{over, nameRec, dotsW}
+use Rattle.descent.proofs.Grown.{recs}
 use Rattle.descent.proofs.TableFacts.{BOUND}
 use Rattle.descent.proofs.Steps.{nt-got, nt-refused, call-in, call-absent, call-wrong, row-stop}
 use Rattle.descent.proofs.ClassFacts.{out, none-of-1, none-of-2, firsts-ColRest, ColRest-at-DOT, ColRest-at-LP, ColRest-may, firsts-ColDots, ColDots-at-DOT, ColDots-may, StarOrName-at-STAR, StarOrName-may, SecondName-may, firsts-Dot, Dot-at-DOT, Dot-may, firsts-NameRest, NameRest-at-LP, NameRest-at-DOT, NameRest-may, firsts-Dots, Dots-at-DOT, Dots-may}

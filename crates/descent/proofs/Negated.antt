@@ -19,9 +19,9 @@ use Rattle.grammar.specs.Grammar.{sql}
 use Rattle.grammar.specs.Limits.{Around, isQuery, below}
 use Rattle.grammar.specs.Nodes.{end, count, beside, rec, records}
 use Rattle.grammar.specs.Reading.{Val, empty, side, cat, one, choose, isQueryVal, inside, rules, ruled, valueOf, value, _#_}
-use Rattle.descent.specs.Places.{kindAt, tokAt, wrong, OpenRow, calls, rests}
-use Rattle.descent.specs.Named.{notRow}
-use Rattle.descent.specs.Walk.{Walked, done, over, wrongAt, exprW, binaryW, betweenW, insideW}
+use Rattle.descent.proofs.Places.{kindAt, tokAt, wrong, OpenRow, calls, rests}
+use Rattle.descent.proofs.Named.{notRow}
+use Rattle.descent.proofs.Walk.{Walked, done, over, wrongAt, exprW, binaryW, betweenW, insideW}
 use Rattle.descent.proofs.Steps.{nt-got, nt-refused, call-in, call-wrong, row-stop}
 use Rattle.descent.proofs.Growing.{records-beside, count-beside}
 use Rattle.descent.proofs.ClassFacts.{out, firsts-Not, Not-at-LIKE-KW, Not-at-IN, Not-at-BETWEEN, Not-at-NULL, Not-may}

@@ -6,8 +6,8 @@ use lib.ListN.{length}
 use native.Mathlib.Omega.{arith}
 use Rattle.grammar.specs.Nodes.{end, count, beside, Rec, rec, records}
 use Rattle.grammar.specs.Reading.{Val, empty, side, one, choose, isEnd, opt}
-use Rattle.descent.specs.Walk.{missing, over}
-use Rattle.descent.specs.Grown.{recsAll, recs}
+use Rattle.descent.proofs.Walk.{missing, over}
+use Rattle.descent.proofs.Grown.{recsAll, recs}
 use Rattle.descent.proofs.Growing.{side-cons, count-beside}
 use Rattle.descent.proofs.Means.{Single}
 use Rattle.descent.proofs.Sides.{single-count, single-there, beside-end, one-single}

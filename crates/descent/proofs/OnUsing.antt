@@ -20,9 +20,9 @@ use Rattle.grammar.specs.Grammar.{sql}
 use Rattle.grammar.specs.Limits.{Around, isQuery, below}
 use Rattle.grammar.specs.Nodes.{count, Rec, rec}
 use Rattle.grammar.specs.Reading.{Val, empty, one, opt, rules, ruled, valueOf, value, values, _#_}
-use Rattle.descent.specs.Places.{kindAt, tokAt, wrong, OpenRow, rests}
-use Rattle.descent.specs.Walk.{bind, missing, over, closeW, namesW, usingW, exprW, onW}
-use Rattle.descent.specs.Grown.{recs}
+use Rattle.descent.proofs.Places.{kindAt, tokAt, wrong, OpenRow, rests}
+use Rattle.descent.proofs.Walk.{bind, missing, over, closeW, namesW, usingW, exprW, onW}
+use Rattle.descent.proofs.Grown.{recs}
 use Rattle.descent.proofs.ClassFacts.{none-of-2, firsts-On, On-at-ON, On-at-USING, On-may}
 use Rattle.descent.proofs.Means.{Single, Told, Good, Reads, ExprOK, OnOK, NamesOK}
 use Rattle.descent.proofs.Common.{told-bind, told-choose, told-done, told-stop}

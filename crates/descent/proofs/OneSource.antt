@@ -18,9 +18,9 @@ use Rattle.grammar.specs.Grammar.{sql}
 use Rattle.grammar.specs.Limits.{Around, isQuery, below}
 use Rattle.grammar.specs.Nodes.{Rec}
 use Rattle.grammar.specs.Reading.{Val, one, opt, isQueryVal, rules, ruled, valueOf, value, values, _#_}
-use Rattle.descent.specs.Places.{kindAt, tokAt, from, wrong, rests}
-use Rattle.descent.specs.Walk.{over, aliasW, lentW, queryW, sourceW}
-use Rattle.descent.specs.Grown.{recs}
+use Rattle.descent.proofs.Places.{kindAt, tokAt, from, wrong, rests}
+use Rattle.descent.proofs.Walk.{over, aliasW, lentW, queryW, sourceW}
+use Rattle.descent.proofs.Grown.{recs}
 use Rattle.descent.proofs.Steps.{nt-got, nt-refused}
 use Rattle.descent.proofs.ClassFacts.{out, none-of-2, firsts-Query, Query-at-SELECT, Query-at-VALUES, Query-may, Source-at-LP}
 use Rattle.descent.proofs.Means.{Single, Told, Good, Reads, QueryOK, SourceOK}

@@ -12,8 +12,8 @@ use Rattle.theory.proofs.Cases.{eqb-eq}
 use Rattle.kinds.specs.Kinds.{RP}
 use Rattle.grammar.specs.Limits.{Around, below}
 use Rattle.grammar.specs.Nodes.{Rec, rec}
-use Rattle.descent.specs.Places.{kindAt, wrong, OpenRow}
-use Rattle.descent.specs.Walk.{Walked, onto, over, closeW}
+use Rattle.descent.proofs.Places.{kindAt, wrong, OpenRow}
+use Rattle.descent.proofs.Walk.{Walked, onto, over, closeW}
 use Rattle.descent.proofs.Means.{Told, Operand, RowOK}
 use Rattle.descent.proofs.Common.{told-onto, told-choose, told-done, told-stop}
 

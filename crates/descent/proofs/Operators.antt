@@ -20,9 +20,9 @@ use Rattle.grammar.specs.Rows.{part, binary}
 use Rattle.grammar.specs.Limits.{Around, isQuery, below}
 use Rattle.grammar.specs.Nodes.{end, count, beside, rec, records}
 use Rattle.grammar.specs.Reading.{Val, empty, side, one, choose, name, isQueryVal, inside, rules, ruled, valueOf, value, _#_}
-use Rattle.descent.specs.Places.{kindAt, tokAt, from, OpenRow, calls, rests}
-use Rattle.descent.specs.Named.{isRow, likeRow, inRow, betweenRow, notRow, nullTestRow, collateRow, opRow}
-use Rattle.descent.specs.Walk.{Walked, done, over, nameRec, collateW, exprW, negatedW, binaryW, betweenW, insideW}
+use Rattle.descent.proofs.Places.{kindAt, tokAt, from, OpenRow, calls, rests}
+use Rattle.descent.proofs.Named.{isRow, likeRow, inRow, betweenRow, notRow, nullTestRow, collateRow, opRow}
+use Rattle.descent.proofs.Walk.{Walked, done, over, nameRec, collateW, exprW, negatedW, binaryW, betweenW, insideW}
 use Rattle.descent.proofs.SameRow.{eqItems, eqRow, same-row, below?, throughout}
 use Rattle.descent.proofs.TableFacts.{BOUND}
 use Rattle.descent.proofs.Steps.{nt-got, nt-refused, call-absent}

@@ -19,10 +19,10 @@ use Rattle.grammar.specs.Rows.{part, selectItems, valuesItems}
 use Rattle.grammar.specs.Grammar.{sql}
 use Rattle.grammar.specs.Nodes.{count, beside, Rec}
 use Rattle.grammar.specs.Reading.{Val, empty, side, one, choose, isQueryVal, value, _#_}
-use Rattle.descent.specs.Places.{kindAt, tokAt, wrong, OpenRow}
-use Rattle.descent.specs.Named.{parensRow, existsRow, own}
-use Rattle.descent.specs.Walk.{over, κ, exprW, listW, bracketedW, queryW}
-use Rattle.descent.specs.Grown.{recs}
+use Rattle.descent.proofs.Places.{kindAt, tokAt, wrong, OpenRow}
+use Rattle.descent.proofs.Named.{parensRow, existsRow, own}
+use Rattle.descent.proofs.Walk.{over, κ, exprW, listW, bracketedW, queryW}
+use Rattle.descent.proofs.Grown.{recs}
 use Rattle.descent.proofs.Steps.{nt-got, nt-refused, lit-got, lit-wrong, row-stop}
 use Rattle.descent.proofs.ClassFacts.{out, none-of-2, firsts-Query, Query-at-SELECT, Query-at-VALUES, Query-may, Paren-at-SELECT, Paren-at-VALUES, Paren-may}
 use Rattle.descent.proofs.Rules.{known, value-parens, value-exists}

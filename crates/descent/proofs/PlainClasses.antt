@@ -21,9 +21,9 @@ use Rattle.grammar.specs.Limits.{Around, isQuery}
 use Rattle.grammar.specs.Nodes.{Rec}
 use Rattle.grammar.specs.Reading.{value}
 use Rattle.kinds.specs.Lists.{among}
-use Rattle.descent.specs.Places.{kindAt, tokAt, from, wrong, OpenRow, calls, rests}
-use Rattle.descent.specs.Walk.{Walked, exprW}
-use Rattle.descent.specs.Grown.{recs}
+use Rattle.descent.proofs.Places.{kindAt, tokAt, from, wrong, OpenRow, calls, rests}
+use Rattle.descent.proofs.Walk.{Walked, exprW}
+use Rattle.descent.proofs.Grown.{recs}
 use Rattle.descent.proofs.SameRow.{eqFound, same-found}
 use Rattle.descent.proofs.Steps.{nt-got, nt-refused, lit-got, lit-wrong, call-in, call-absent, row-stop}
 use Rattle.descent.proofs.ClassFacts.{out}

@@ -14,10 +14,10 @@ use Rattle.grammar.specs.Classes.{E}
 use Rattle.grammar.specs.NodeNames.{node-prefix}
 use Rattle.grammar.specs.Limits.{isQuery, below}
 use Rattle.grammar.specs.Reading.{side, rules, ruled, valueOf, value}
-use Rattle.descent.specs.Places.{kindAt, tokAt, wrong, OpenRow, again}
-use Rattle.descent.specs.Named.{prefixRow, headRow}
-use Rattle.descent.specs.Walk.{deeper, notB, over, wrongAt, exprW}
-use Rattle.descent.specs.Grown.{recs}
+use Rattle.descent.proofs.Places.{kindAt, tokAt, wrong, OpenRow, again}
+use Rattle.descent.proofs.Named.{prefixRow, headRow}
+use Rattle.descent.proofs.Walk.{deeper, notB, over, wrongAt, exprW}
+use Rattle.descent.proofs.Grown.{recs}
 use Rattle.descent.proofs.Steps.{nt-got, nt-refused}
 use Rattle.descent.proofs.Means.{plainCode, ExprTree, Good, ExprOK, PrefixOK}
 use Rattle.descent.proofs.Common.{told-bind, told-choose, told-done, told-stop, expr-got}

@@ -21,9 +21,9 @@ use Rattle.grammar.specs.Grammar.{sql}
 use Rattle.grammar.specs.Limits.{Around, isQuery, members, lastChild, childrenBefore, width, widthOf, isKind, judge}
 use Rattle.grammar.specs.Nodes.{end, count, beside, Rec, records}
 use Rattle.grammar.specs.Reading.{side, one, rules, ruled, valueOf, value}
-use Rattle.descent.specs.Places.{kindAt, tokAt, wrong, OpenRow, calls, rests}
-use Rattle.descent.specs.Walk.{Walked, done, stop, notB, over, wrongAt, exprW, listW, valuesW, rowW}
-use Rattle.descent.specs.Grown.{recsAll, recs}
+use Rattle.descent.proofs.Places.{kindAt, tokAt, wrong, OpenRow, calls, rests}
+use Rattle.descent.proofs.Walk.{Walked, done, stop, notB, over, wrongAt, exprW, listW, valuesW, rowW}
+use Rattle.descent.proofs.Grown.{recsAll, recs}
 use Rattle.descent.proofs.Steps.{lit-got, lit-word, lit-wrong, call-in, call-wrong, row-on, row-stop}
 use Rattle.descent.proofs.Growing.{records-beside, side-cons, count-beside}
 use Rattle.descent.proofs.ClassFacts.{out, none-of-1, firsts-Rows, Rows-at-LP, Rows-may}

@@ -20,9 +20,9 @@ use Rattle.grammar.specs.Grammar.{sql}
 use Rattle.grammar.specs.Limits.{Around, isQuery, below}
 use Rattle.grammar.specs.Nodes.{count, Rec}
 use Rattle.grammar.specs.Reading.{Val, one, opt, column, group, rules, ruled, valueOf, value, values}
-use Rattle.descent.specs.Places.{kindAt, tokAt, from, OpenRow, calls, rests}
-use Rattle.descent.specs.Walk.{over, selectW, selectedW, clausesW, columnsW}
-use Rattle.descent.specs.Grown.{recs}
+use Rattle.descent.proofs.Places.{kindAt, tokAt, from, OpenRow, calls, rests}
+use Rattle.descent.proofs.Walk.{over, selectW, selectedW, clausesW, columnsW}
+use Rattle.descent.proofs.Grown.{recs}
 use Rattle.descent.proofs.Steps.{nt-got}
 use Rattle.descent.proofs.ClassFacts.{none-of-2, firsts-Distinct, Distinct-at-DISTINCT, Distinct-at-ALL, Distinct-may}
 use Rattle.descent.proofs.Means.{Single, Told, Good, SelectOK, SelectedOK, ColumnsOK, ClausesOK}

@@ -19,9 +19,9 @@ use Rattle.grammar.specs.Grammar.{sql}
 use Rattle.grammar.specs.Limits.{Around, isQuery, below}
 use Rattle.grammar.specs.Nodes.{end, count, Rec, rec, records}
 use Rattle.grammar.specs.Reading.{Val, empty, side, one, choose, isEnd, none-there, opt, group, rules, ruled, valueOf, value, values, _#_}
-use Rattle.descent.specs.Places.{kindAt, tokAt, from, wrong, calls, rests}
-use Rattle.descent.specs.Walk.{missing, over, exprW, listW, clausesW, clauseW, groupW, fromW}
-use Rattle.descent.specs.Grown.{recs}
+use Rattle.descent.proofs.Places.{kindAt, tokAt, from, wrong, calls, rests}
+use Rattle.descent.proofs.Walk.{missing, over, exprW, listW, clausesW, clauseW, groupW, fromW}
+use Rattle.descent.proofs.Grown.{recs}
 use Rattle.descent.proofs.Steps.{nt-got, nt-refused}
 use Rattle.descent.proofs.ClassFacts.{none-of-1, firsts-Group, Group-at-GROUP, Group-may, firsts-Having, Having-at-HAVING, Having-may}
 use Rattle.descent.proofs.Means.{Single, Told, Good, Reads, ExprOK, ListOK, ClauseOK, ClausesOK, GroupOK, FromOK}

@@ -8,8 +8,8 @@ use lib.ListN.{length, length-append}
 use native.Mathlib.Omega.{arith}
 use Rattle.grammar.specs.Nodes.{Nodes, end, mk, count, beside, rec, records}
 use Rattle.grammar.specs.Reading.{Val, side, one, isEnd}
-use Rattle.descent.specs.Walk.{over}
-use Rattle.descent.specs.Grown.{recs}
+use Rattle.descent.proofs.Walk.{over}
+use Rattle.descent.proofs.Grown.{recs}
 use Rattle.descent.proofs.Growing.{side-cons, count-beside, recs-one}
 use Rattle.descent.proofs.Means.{Single}
 

@@ -22,9 +22,9 @@ use Rattle.grammar.specs.Grammar.{sql}
 use Rattle.grammar.specs.Limits.{Around, isQuery, below}
 use Rattle.grammar.specs.Nodes.{count, beside, Rec, records}
 use Rattle.grammar.specs.Reading.{side, one, rules, ruled, valueOf, value, _#_}
-use Rattle.descent.specs.Places.{kindAt, tokAt, from, wrong, OpenRow, calls, rests}
-use Rattle.descent.specs.Walk.{Walked, done, bind, over, wrongAt, nullsW, wayW, exprW, termsW}
-use Rattle.descent.specs.Grown.{recs}
+use Rattle.descent.proofs.Places.{kindAt, tokAt, from, wrong, OpenRow, calls, rests}
+use Rattle.descent.proofs.Walk.{Walked, done, bind, over, wrongAt, nullsW, wayW, exprW, termsW}
+use Rattle.descent.proofs.Grown.{recs}
 use Rattle.descent.proofs.Steps.{nt-got, nt-refused, lit-got, lit-wrong, call-in, call-absent, call-wrong, row-on, row-stop}
 use Rattle.descent.proofs.Growing.{side-cons, count-beside}
 use Rattle.descent.proofs.ClassFacts.{out, none-of-1, none-of-2, firsts-Terms, Terms-at-COMMA, Terms-may, firsts-Way, Way-at-ASC, Way-at-DESC, Way-may, firsts-Nulls, Nulls-at-NULLS, Nulls-may, firsts-FirstLast, FirstLast-at-FIRST, FirstLast-at-LAST, FirstLast-may}

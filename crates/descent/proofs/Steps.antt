@@ -15,7 +15,7 @@ use Rattle.theory.proofs.Cases.{eqb-true}
 use Rattle.theory.proofs.Descend.{onGot, check}
 use Rattle.grammar.specs.Grammar.{sql}
 use Rattle.grammar.specs.Limits.{Around, below, judge}
-use Rattle.descent.specs.Places.{kindAt, tokAt, from, wrong, Sound, OpenRow, calls, rests, again}
+use Rattle.descent.proofs.Places.{kindAt, tokAt, from, wrong, Sound, OpenRow, calls, rests, again}
 use Rattle.descent.proofs.Equations.{call-at, nt-at, lit-at, end-at}
 
 module _ (K T : List ℕ) (ok : Sound K T) where

@@ -10,8 +10,8 @@ use Rattle.theory.specs.Table.{pick, both, mem}
 use Rattle.theory.proofs.Cases.{both-l, both-r, leb-le, le-leb}
 use Rattle.kinds.specs.Strength.{strengthOf, prefixOf}
 use Rattle.grammar.specs.Limits.{Around, isQuery, below}
-use Rattle.descent.specs.Named.{opRow}
-use Rattle.descent.specs.Walk.{deeper, notB}
+use Rattle.descent.proofs.Named.{opRow}
+use Rattle.descent.proofs.Walk.{deeper, notB}
 use Rattle.descent.proofs.SameRow.{below?, throughout}
 use Rattle.descent.proofs.TableFacts.{BOUND}
 use Rattle.descent.proofs.Means.{plainCode, ExprTree}

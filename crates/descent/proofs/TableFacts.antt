@@ -16,7 +16,7 @@ use Rattle.kinds.specs.Classes.{isName, literalCode}
 use Rattle.grammar.specs.Classes.{Expr, E}
 use Rattle.grammar.specs.Rows.{butColumn, exprs, selectItems, valuesItems, lines, headsOf, tailsOf}
 use Rattle.grammar.specs.Grammar.{sql}
-use Rattle.descent.specs.Named.{opRow, restOf, headRow, own}
+use Rattle.descent.proofs.Named.{opRow, restOf, headRow, own}
 use Rattle.descent.proofs.SameRow.{eqNt, eqItem, eqItems, eqRow, eqFound, same-found, below?, throughout}
 
 -- kinds are 0 (the end) to 71

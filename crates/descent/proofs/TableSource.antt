@@ -23,9 +23,9 @@ use Rattle.grammar.specs.Grammar.{sql}
 use Rattle.grammar.specs.Limits.{Around, isQuery, below}
 use Rattle.grammar.specs.Nodes.{end, count, beside, Rec, records}
 use Rattle.grammar.specs.Reading.{Val, empty, side, cat, one, choose, isEnd, none-there, opt, name, rules, ruled, valueOf, value, values, _#_}
-use Rattle.descent.specs.Places.{kindAt, tokAt, wrong, calls, rests}
-use Rattle.descent.specs.Walk.{Walked, done, bind, onto, missing, over, wrongAt, nameRec, nameW, aliasW, qualifiedW, indexW, tableW}
-use Rattle.descent.specs.Grown.{recs}
+use Rattle.descent.proofs.Places.{kindAt, tokAt, wrong, calls, rests}
+use Rattle.descent.proofs.Walk.{Walked, done, bind, onto, missing, over, wrongAt, nameRec, nameW, aliasW, qualifiedW, indexW, tableW}
+use Rattle.descent.proofs.Grown.{recs}
 use Rattle.descent.proofs.SameRow.{eqNt, eqItem, eqItems, eqRow, eqFound}
 use Rattle.descent.proofs.Steps.{nt-got, nt-refused, call-wrong}
 use Rattle.descent.proofs.ClassFacts.{out, none-of-1, none-of-2, firsts-Source, Source-may, firsts-Dot, Dot-at-DOT, Dot-may, firsts-Index, Index-at-INDEXED, Index-at-NOT, Index-may}

@@ -18,7 +18,7 @@ use Rattle.kinds.specs.Strength.{strengthOf}
 use Rattle.grammar.specs.Classes.{Paren, Column, Inside?, Args?}
 use Rattle.grammar.specs.Rows.{butColumn, exprs, selectItems, valuesItems, lines, headsOf, tailsOf}
 use Rattle.grammar.specs.Grammar.{sql}
-use Rattle.descent.specs.Places.{kindAt}
+use Rattle.descent.proofs.Places.{kindAt}
 use Rattle.descent.proofs.SameRow.{eqNt, eqItem, eqItems, eqRow, eqFound, same-found, below?, throughout}
 use Rattle.descent.proofs.TableFacts.{BOUND, cont-tight}
 use Rattle.descent.proofs.Means.{Good, Stops}

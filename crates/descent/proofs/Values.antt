@@ -15,8 +15,8 @@ use Rattle.grammar.specs.Nodes.{count, Rec, rec, records}
 use Rattle.grammar.specs.Reading.{Val, empty, side, one, choose, isEnd, none-there, opt, name, valueOf, value, values, isQueryVal}
 use Rattle.theory.proofs.Cases.{by-bool, 0≢1, eqb-eq}
 use Rattle.grammar.specs.Limits.{isQuery}
-use Rattle.descent.specs.Walk.{missing, notB, over}
-use Rattle.descent.specs.Grown.{recsAll, recs}
+use Rattle.descent.proofs.Walk.{missing, notB, over}
+use Rattle.descent.proofs.Grown.{recsAll, recs}
 use Rattle.descent.proofs.Growing.{side-cons, count-beside}
 use Rattle.descent.proofs.Rules.{known, value-name}
 use Rattle.descent.proofs.Means.{Single, plainCode, ExprTree}

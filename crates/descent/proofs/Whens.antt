@@ -17,9 +17,9 @@ use Rattle.grammar.specs.Grammar.{sql}
 use Rattle.grammar.specs.Limits.{isQuery, below}
 use Rattle.grammar.specs.Nodes.{count, beside, records}
 use Rattle.grammar.specs.Reading.{empty, side, value}
-use Rattle.descent.specs.Places.{kindAt, tokAt, OpenRow}
-use Rattle.descent.specs.Walk.{exprW, afterW, whensW}
-use Rattle.descent.specs.Grown.{recs}
+use Rattle.descent.proofs.Places.{kindAt, tokAt, OpenRow}
+use Rattle.descent.proofs.Walk.{exprW, afterW, whensW}
+use Rattle.descent.proofs.Grown.{recs}
 use Rattle.descent.proofs.Steps.{nt-got, nt-refused}
 use Rattle.descent.proofs.ClassFacts.{firsts-Whens, Whens-at-WHEN, Whens-may}
 use Rattle.descent.proofs.Rules.{value-next-when}

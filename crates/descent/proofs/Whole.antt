@@ -26,8 +26,8 @@ use Rattle.grammar.specs.Reading.{reading}
 use Rattle.grammar.specs.Promise.{tokens, recordsOf}
 use Rattle.grammar.proofs.Checked.{sql-laws}
 use Rattle.grammar.proofs.Promised.{parsed}
-use Rattle.descent.specs.Places.{kindAt, tokAt, from, wrong, OpenRow, calls}
-use Rattle.descent.specs.Walk.{done, wrongAt, queryW, commandW}
+use Rattle.descent.proofs.Places.{kindAt, tokAt, from, wrong, OpenRow, calls}
+use Rattle.descent.proofs.Walk.{done, wrongAt, queryW, commandW}
 use Rattle.descent.proofs.Equations.{from-in, kind-end, at-end}
 use Rattle.descent.proofs.Steps.{nt-got, call-in, call-absent, row-stop}
 use Rattle.descent.proofs.ClassFacts.{out, none-of-1, none-of-2, firsts-Command, Command-at-SELECT, Command-at-VALUES, Command-may, firsts-Semi, Semi-at-SEMI, Semi-may}

@@ -15,7 +15,7 @@ use Rattle.grammar.specs.Limits.{Around, outer, width}
 use Rattle.grammar.specs.Nodes.{Rec, rec}
 use Rattle.grammar.specs.Reading.{choose}
 use Rattle.grammar.specs.Sizes.{LEVELS, QUERIES}
-use Rattle.descent.specs.Places.{wrong}
+use Rattle.descent.proofs.Places.{wrong}
 
 -- what a part comes to: the place after it, what it says by a number, how many members it has, its records; or a refusal; or no fuel
 pub data Walked : Type 0 where
