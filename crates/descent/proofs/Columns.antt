@@ -25,7 +25,7 @@ use Rattle.grammar.specs.Nodes.{count, Rec, rec, records}
 use Rattle.grammar.specs.Reading.{Val, empty, side, one, choose, none-there, name, NAME-STAR, column, value, _#_}
 use Rattle.descent.proofs.Places.{kindAt, tokAt, from, calls, rests, again}
 use Rattle.descent.proofs.Named.{own}
-use Rattle.descent.proofs.Walk.{Walked, done, bind, missing, notB, over, nameRec, nameW, aliasW, exprW, columnsW, columnW}
+use Rattle.descent.proofs.Walk.{Walked, done, bind, missing, notB, over, nameRec, nameW, aliasW, exprW, colsW, colW}
 use Rattle.descent.proofs.Grown.{recs}
 use Rattle.descent.proofs.SameRow.{eqNt, eqItem, eqItems, eqRow, eqFound, same-found, below?, throughout}
 use Rattle.descent.proofs.TableFacts.{BOUND}
@@ -161,13 +161,13 @@ module _ (K T : List ℕ) (good : Good K T) (c : Around) where
 
   module _ (at : ℕ) where
     -- an expression, or name DOT STAR, was read up to a
-    exprd-told : (a said : ℕ) (rs : List Rec) → (y : Tree) × (calls K T c (any Column) at ≡ again K T c (any Column) y a) × Exprd y said 0 × Stops K T 0 said a × (rs ≡ recs (value y))
-        → Columned at (choose (eqb said 0) (done a 0 0 rs) (bind (aliasW K T a) (λ b mode n qs. done b 0 0 (over 7 mode 2 0 (rs ++ qs)))))
+    exprd-told : (a said n : ℕ) (rs : List Rec) → (y : Tree) × (calls K T c (any Column) at ≡ again K T c (any Column) y a) × Exprd y said 0 × Stops K T 0 said a × (rs ≡ recs (value y))
+        → Columned at (choose (eqb said 0) (done a said n rs) (bind (aliasW K T a) (λ b mode m qs. done b 0 0 (over 7 mode 2 0 (rs ++ qs)))))
     unfolding again
-    exprd-told a said rs (y, e, inl t, st, r) = told-choose (eqb said 0) _ _
+    exprd-told a said n rs (y, e, inl t, st, r) = told-choose (eqb said 0) _ _
         (λ z. absurd (let s = eqb-eq said 0 z in omega (arith, t .some, s)))
         (λ z. told-bind (aliasW K T a) _ (alias-told y said a t st)
-        (λ b mode n qs p. told-done b 0 0 _ (
+        (λ b mode m qs p. told-done b 0 0 _ (
           p .0,
           e ∙ p .2,
           (
@@ -177,8 +177,8 @@ module _ (K T : List ℕ) (good : Good K T) (c : Around) where
           ),
         ))
         (λ m p q. e ∙ q))
-    exprd-told a said rs (y, e, inr (s, z, t), st, r) = told-choose (eqb said 0) _ _
-        (λ z. told-done a 0 0 rs (y, e ∙ stays, rw (column-dots (value y) plain (t .says)) (t .single, r)))
+    exprd-told a said n rs (y, e, inr (s, z, t), st, r) = told-choose (eqb said 0) _ _
+        (λ z. told-done a said n rs (y, e ∙ stays, rw (column-dots (value y) plain (t .says)) (t .single, r)))
         (λ z. absurd (eqb-false said 0 z s))
       where
         plain : plainCode (value y .row) ≡ true
@@ -214,19 +214,19 @@ module _ (K T : List ℕ) (good : Good K T) (f : ℕ) where
         rw (column-star (tokAt K T at)) (one-single node-star 0 [], star-recs),
       ))
       (λ z. told-bind (exprW K T f at c 0) _ (ok at c 0 (any Column) takes-column (star-own (kindAt K at) (eqb-false (kindAt K at) STAR z)) (λ n. 0≢1 (sym Column-may ∙ n)))
-      (λ a said n rs p. exprd-told K T good c at a said rs p) (λ m p q. q))
+      (λ a said n rs p. exprd-told K T good c at a said n rs p) (λ m p q. q))
 
   member : ColumnOK K T f → (at : ℕ) (c : Around)
-      → Told (columnW K T f at c) (λ a s m rs. (y : Tree) × (calls K T c (any Column) at ≡ got y a (from K T a)) × One y × (rs ≡ recs (column (value y)))) (λ m p. calls K T c (any Column) at ≡ refused m p)
-  member ok at c = told-map (columnW K T f at c) (ok at c) (λ a s m rs p. (p .0, p .1, p .2 .0, p .2 .1)) (λ m p e. e)
+      → Told (colW K T f at c) (λ a s m rs. (y : Tree) × (calls K T c (any Column) at ≡ got y a (from K T a)) × One y × (rs ≡ recs (column (value y)))) (λ m p. calls K T c (any Column) at ≡ refused m p)
+  member ok at c = told-map (colW K T f at c) (ok at c) (λ a s m rs p. (p .0, p .1, p .2 .0, p .2 .1)) (λ m p e. e)
 
   pub further-columns-ok : ColumnOK K T f → FurtherColumnsOK K T f → FurtherColumnsOK K T (suc f)
   unfolding exprW
-  further-columns-ok ok next at c n x u = looped K T good columns-list column columns-rule One (λ y p. single-count (column (value y) .nodes) p) c at n x u (columnW K T f at c) (λ b. columnsW K T f b c (n + 1)) (member ok at c)
+  further-columns-ok ok next at c n x u = looped K T good columns-list column columns-rule One (λ y p. single-count (column (value y) .nodes) p) c at n x u (colW K T f at c) (λ b. colsW K T f b c (n + 1)) (member ok at c)
       (λ a z. next (a + 1) c (n + 1) z (tokAt K T a))
 
   pub columns-ok : ColumnOK K T f → FurtherColumnsOK K T f → ColumnsOK K T (suc f)
   unfolding exprW
-  columns-ok ok next at c n F is k e = told-map _ (firsts K T good columns-list column columns-rule One (λ y p. single-count (column (value y) .nodes) p) c at n F is k (columnW K T f at c) (λ b. columnsW K T f b c (n + 1)) e (member ok at c)
+  columns-ok ok next at c n F is k e = told-map _ (firsts K T good columns-list column columns-rule One (λ y p. single-count (column (value y) .nodes) p) c at n F is k (colW K T f at c) (λ b. colsW K T f b c (n + 1)) e (member ok at c)
       (λ a. next (a + 1) c (n + 1) nil (tokAt K T a)))
       (λ a s m rs p. (p .0, p .1, p .2, omega (arith, p .4, p .5), p .3, p .6)) (λ m p e. e)

@@ -25,7 +25,7 @@ use Rattle.grammar.specs.Nodes.{Rec}
 use Rattle.grammar.specs.Reading.{choose}
 use Rattle.descent.proofs.Places.{kindAt, tokAt, wrong, calls}
 use Rattle.descent.proofs.Named.{prefixRow, restOf, headRow, own}
-use Rattle.descent.proofs.Walk.{stop, wrongAt, tooDeepW, exprW, leafW, compoundW, opsW}
+use Rattle.descent.proofs.Walk.{stop, wrongAt, tooDeepW, exprW, leafW, operandW, opsW}
 use Rattle.descent.proofs.SameRow.{below?, throughout}
 use Rattle.descent.proofs.TableFacts.{BOUND}
 use Rattle.descent.proofs.Steps.{call-word}
@@ -80,8 +80,8 @@ module _ (K T : List ℕ) (good : Good K T) where
   expr-ok f leaves compound ops at c s A t o n = told-choose (ltb LEVELS (c .level)) (tooDeepW K T at s) _
       (λ z. too-deep at c s A t o n (ltb-true LEVELS (c .level) z) _)
       (λ z. let l = ltb-false LEVELS (c .level) z in
-      told-bind (choose (both (leb ID (kindAt K at)) (leb (kindAt K at) NULL)) (leafW K T f at c s) (compoundW K T f at c s)) _
-      (told-choose (both (leb ID (kindAt K at)) (leb (kindAt K at) NULL)) (leafW K T f at c s) (compoundW K T f at c s)
+      told-bind (choose (both (leb ID (kindAt K at)) (leb (kindAt K at) NULL)) (leafW K T f at c s) (operandW K T f at c s)) _
+      (told-choose (both (leb ID (kindAt K at)) (leb (kindAt K at) NULL)) (leafW K T f at c s) (operandW K T f at c s)
       (λ w. leaves at c s A t o n l (leb-le ID (kindAt K at) (both-l (leb ID (kindAt K at)) (leb (kindAt K at) NULL) w), leb-le (kindAt K at) NULL (both-r (leb ID (kindAt K at)) (leb (kindAt K at) NULL) w)))
       (λ w. compound at c s A t o n l (λ h. 0≢1 (sym w ∙ both-i (leb ID (kindAt K at)) (leb (kindAt K at) NULL) (le-leb ID (kindAt K at) (h .0)) (le-leb (kindAt K at) NULL (h .1))))))
       (λ a left m rs q. told-onto rs (opsW K T f a c s left (length rs)) (ops a c s left (length rs) A t (q .0) (q .2) (ap length (sym (q .3))))

@@ -9,7 +9,7 @@ use Rattle.grammar.specs.Sizes.{WIDTH}
 use Rattle.grammar.specs.Nodes.{Rec, rec, numbers, laid}
 use Rattle.descent.proofs.Fill.{put, fill, Filled}
 
-length-fill : (N : List ℕ) (m : ℕ) (rs : List Rec) → length (fill N m rs) ≡ length N
+pub length-fill : (N : List ℕ) (m : ℕ) (rs : List Rec) → length (fill N m rs) ≡ length N
 unfolding fill
 length-fill N m [] = refl
 length-fill N m (rec c d n s ∷ rs) = length-fill (put N m c d n s) (m + 1) rs ∙ simp length-set
@@ -39,7 +39,7 @@ _then_ {N} {N₁} {N₂} {m} {m₁} {m₂} {rs} {qs} a b =
     }
 
 -- ── where the records stand ──
-set-on : (hs : List ℕ) (i : ℕ) (bs : List ℕ) (y : ℕ) → set (hs ++ bs) (length hs + i) y ≡ hs ++ set bs i y
+pub set-on : (hs : List ℕ) (i : ℕ) (bs : List ℕ) (y : ℕ) → set (hs ++ bs) (length hs + i) y ≡ hs ++ set bs i y
 set-on [] i bs y = ap (λ z. set bs z y) (omega arith)
 set-on (h ∷ hs) i bs y =
     let e : length (h ∷ hs) + i ≡ suc (length hs + i) = omega arith in

@@ -17,7 +17,7 @@ use Rattle.grammar.specs.Limits.{Around}
 use Rattle.grammar.specs.Reading.{value}
 use Rattle.descent.proofs.Places.{kindAt, tokAt, OpenRow, rests, again}
 use Rattle.descent.proofs.Named.{opRow}
-use Rattle.descent.proofs.Walk.{done, bind, onto, deeper, exprW, opsW, operatorW}
+use Rattle.descent.proofs.Walk.{done, bind, onto, deeper, exprW, opsW, opW}
 use Rattle.descent.proofs.Grown.{recs}
 use Rattle.descent.proofs.TableFacts.{op-str, cont-op}
 use Rattle.descent.proofs.Steps.{row-on}
@@ -40,11 +40,11 @@ module _ (K T : List ℕ) (good : Good K T) where
     -- where an operator goes on
     goes : (at : ℕ) (c : Around) (s left pre : ℕ) (A : Nt) → Takes A s → (y : Tree) → ExprTree y left → length (recs (value y)) ≡ pre
         → 0 < strengthOf (kindAt K at) → s ≤ strengthOf (kindAt K at) → strengthOf (kindAt K at) ≤ left
-        → Told (bind (operatorW K T f at (deeper c) (strengthOf (kindAt K at) + 1) pre) (λ a x n rs. onto rs (opsW K T f a c s (strengthOf (kindAt K at)) (pre + length rs))))
+        → Told (bind (opW K T f at (deeper c) (strengthOf (kindAt K at) + 1) pre) (λ a x n rs. onto rs (opsW K T f a c s (strengthOf (kindAt K at)) (pre + length rs))))
         (λ a said n rs. (z : Tree) × (again K T c A y at ≡ again K T c A z a) × Exprd z said s × Stops K T s said a × (recs (value z) ≡ recs (value y) ++ rs))
         (λ m p. again K T c A y at ≡ refused m p)
     unfolding again
-    goes at c s left pre A t y e len p a b = told-bind (operatorW K T f at (deeper c) (strengthOf (kindAt K at) + 1) pre) _
+    goes at c s left pre A t y e len p a b = told-bind (opW K T f at (deeper c) (strengthOf (kindAt K at) + 1) pre) _
         (operator at (deeper c) (strengthOf (kindAt K at) + 1) pre F p refl refl refl (below-strong (opRow (kindAt K at)) c (omega (arith, p, st .0)) (op-no-query (kindAt K at) (good .bound at))) (e .single) len)
         (λ d x n rs q. let z = node (opRow (kindAt K at)) y (tokAt K T at) (q .0) in
         told-onto rs (opsW K T f d c s (strengthOf (kindAt K at)) (pre + length rs))
@@ -83,7 +83,7 @@ module _ (K T : List ℕ) (good : Good K T) where
         has i o = omega (arith, o)
 
         going : Exprd y left s → 0 < strengthOf (kindAt K at) → s ≤ strengthOf (kindAt K at) → strengthOf (kindAt K at) ≤ left
-            → Told (bind (operatorW K T f at (deeper c) (strengthOf (kindAt K at) + 1) pre) (λ a x n rs. onto rs (opsW K T f a c s (strengthOf (kindAt K at)) (pre + length rs))))
+            → Told (bind (opW K T f at (deeper c) (strengthOf (kindAt K at) + 1) pre) (λ a x n rs. onto rs (opsW K T f a c s (strengthOf (kindAt K at)) (pre + length rs))))
             (λ a said n rs. (z : Tree) × (again K T c A y at ≡ again K T c A z a) × Exprd z said s × Stops K T s said a × (recs (value z) ≡ recs (value y) ++ rs))
             (λ m p. again K T c A y at ≡ refused m p)
         going (inl e) p a b = goes at c s left pre A t y e len p a b

@@ -26,7 +26,7 @@ use Rattle.grammar.specs.Reading.{Val, one, says, choose, isEnd, opt, name, isQ
 use Rattle.theory.proofs.Lists.{Begun, more}
 use Rattle.descent.proofs.Places.{tokAt, from, Sound, OpenRow, calls, rests, again}
 use Rattle.descent.proofs.Named.{notRow, opRow, parensRow, existsRow, caseRow, castRow, namesRow, own}
-use Rattle.descent.proofs.Walk.{Walked, done, stop, spent, opening, notB, over, κ, namesW, exprW, leafW, compoundW, opsW, operatorW, negatedW, binaryW, betweenW, afterW, insideW, listW, prefixW, callW, parenW, bracketedW, existsW, caseW, baseW, whensW, castW, queryW, bodyW, tailW, valuesW, rowW, selectW, selectedW, clausesW, clauseW, groupW, columnsW, columnW, fromW, joinsW, onW, sourceW, orderW, termsW, limitW}
+use Rattle.descent.proofs.Walk.{Walked, done, stop, spent, opening, notB, over, κ, namesW, exprW, leafW, operandW, opsW, opW, negatedW, binaryW, betweenW, afterW, insideW, listW, prefixW, callW, parenW, subW, existsW, caseW, casedW, whensW, castW, queryW, bodyW, tailW, rowsW, rowW, selectW, selectedW, partsW, clauseW, groupW, colsW, colW, fromW, joinsW, onW, sourceW, orderW, termsW, limitW}
 use Rattle.descent.proofs.Grown.{recs}
 
 -- ── trees ──
@@ -162,7 +162,7 @@ module _ (K T : List ℕ) where
   LeafOK f = OperandOK (leafW K T f) (λ k. (ID ≤ k) × (k ≤ NULL))
 
   abbrev pub CompoundOK : ℕ → Type 0
-  CompoundOK f = OperandOK (compoundW K T f) (λ k. (ID ≤ k) × (k ≤ NULL) → ⊥)
+  CompoundOK f = OperandOK (operandW K T f) (λ k. (ID ≤ k) × (k ≤ NULL) → ⊥)
 
   abbrev pub OpsOK : ℕ → Type 0
   OpsOK f = (at : ℕ) (c : Around) (s left pre : ℕ) (A : Nt) → Takes A s → (y : Tree) → Exprd y left s → length (recs (value y)) ≡ pre
@@ -182,7 +182,7 @@ module _ (K T : List ℕ) where
   -- at an operator's token; c is one deeper than the operator
   abbrev pub OperatorOK : ℕ → Type 0
   OperatorOK f = (at : ℕ) (c : Around) (s pre : ℕ) (F : OpenRow) → 0 < strengthOf (κ K T at) → s ≡ strengthOf (κ K T at) + 1 → F .r ≡ opRow (κ K T at) → F .t ≡ tokAt K T at
-      → below (F .r) (F .c) ≡ c → Goes F (F .r .items) nil (at + 1) pre (operatorW K T f at c s pre)
+      → below (F .r) (F .c) ≡ c → Goes F (F .r .items) nil (at + 1) pre (opW K T f at c s pre)
 
   -- after NOT
   abbrev pub NegatedOK : ℕ → Type 0
@@ -242,7 +242,7 @@ module _ (K T : List ℕ) where
   ExprsOK f = (at : ℕ) (c : Around) (n : ℕ) (x : Tree) (u : Tok) → Further Exprs? nextExpr c x u at n (listW K T f at c n)
 
   abbrev pub FurtherColumnsOK : ℕ → Type 0
-  FurtherColumnsOK f = (at : ℕ) (c : Around) (n : ℕ) (x : Tree) (u : Tok) → Further Columns? nextColumn c x u at n (columnsW K T f at c n)
+  FurtherColumnsOK f = (at : ℕ) (c : Around) (n : ℕ) (x : Tree) (u : Tok) → Further Columns? nextColumn c x u at n (colsW K T f at c n)
 
   -- at a further WHEN, after the pairs x
   abbrev pub FurtherWhensOK : ℕ → Type 0
@@ -306,7 +306,7 @@ module _ (K T : List ℕ) where
   abbrev pub BracketedOK : ℕ → Type 0
   BracketedOK f = (at : ℕ) (c : Around) (code C : ℕ) (F : OpenRow) (k : Tree) → (C ≡ Query) ⊎ ((C ≡ Paren) × ((κ K T at ≡ SELECT) ⊎ (κ K T at ≡ VALUES)))
       → below (F .r) (F .c) ≡ c → mem (F .r .code) (row-word-join ∷ row-next-row ∷ []) ≡ false
-      → Told (bracketedW K T f at c code)
+      → Told (subW K T f at c code)
       (λ a said m rs. (q : Tree) × (w : Tok) × (rests K T F (nt (any C) ∷ lit RP ∷ []) k at ≡ rests K T F [] (add (add k q) (leaf w)) a)
       × (isQueryVal (value q) ≡ true) × Single (value q .nodes) × (said ≡ 12) × (rs ≡ over code 0 1 0 (recs (value q))))
       (λ m p. rests K T F (nt (any C) ∷ lit RP ∷ []) k at ≡ refused m p)
@@ -326,7 +326,7 @@ module _ (K T : List ℕ) where
   -- ── parts of CASE ──
   abbrev pub BaseOK : ℕ → Type 0
   BaseOK f = (at : ℕ) (c : Around) (F : OpenRow) (is : List Item) (k : Tree) → below (F .r) (F .c) ≡ c → mem (F .r .code) (row-word-join ∷ row-next-row ∷ []) ≡ false
-      → Told (baseW K T f at c)
+      → Told (casedW K T f at c)
       (λ a s m rs. (y : Tree) × (rests K T F (nt (any Base?) ∷ lit WHEN ∷ is) k at ≡ rests K T F (lit WHEN ∷ is) (add k y) a)
       × (rs ≡ recs (opt (value y))) × Single (opt (value y) .nodes))
       (λ m p. rests K T F (nt (any Base?) ∷ lit WHEN ∷ is) k at ≡ refused m p)
@@ -388,19 +388,19 @@ module _ (K T : List ℕ) where
 
   abbrev pub ColumnsOK : ℕ → Type 0
   ColumnsOK f = (at : ℕ) (c : Around) (n : ℕ) (F : OpenRow) (is : List Item) (k : Tree) → below (F .r) (F .c) ≡ c
-      → Told (columnsW K T f at c n)
+      → Told (colsW K T f at c n)
       (λ a s m rs. (x : Tree) × (l : Tree) × (rests K T F (nt (any Column) ∷ nt (any Columns?) ∷ is) k at ≡ rests K T F is (add (add k x) l) a)
       × (m ≡ n + 1 + count (value l .nodes)) × Single (column (value x) .nodes) × (rs ≡ recs (column (value x)) ++ recs (value l)))
       (λ m p. rests K T F (nt (any Column) ∷ nt (any Columns?) ∷ is) k at ≡ refused m p)
 
   abbrev pub ColumnOK : ℕ → Type 0
   ColumnOK f = (at : ℕ) (c : Around)
-      → Reads c (any Column) at (columnW K T f at c) (λ y s m rs. Single (column (value y) .nodes) × (rs ≡ recs (column (value y))))
+      → Reads c (any Column) at (colW K T f at c) (λ y s m rs. Single (column (value y) .nodes) × (rs ≡ recs (column (value y))))
 
   -- FROM, WHERE, GROUP BY, HAVING: four items
   abbrev pub ClausesOK : ℕ → Type 0
   ClausesOK f = (at : ℕ) (c : Around) (F : OpenRow) (is : List Item) (k : Tree) → below (F .r) (F .c) ≡ c
-      → Told (clausesW K T f at c)
+      → Told (partsW K T f at c)
       (λ a s m rs. (from : Tree) × (where' : Tree) × (g : Tree) × (h : Tree)
       × (rests K T F (nt (any From?) ∷ nt (any Where?) ∷ nt (any Group?) ∷ nt (any Having?) ∷ is) k at ≡ rests K T F is (add (add (add (add k from) where') g) h) a)
       × Single (opt (value from) .nodes) × Single (opt (value where') .nodes) × Single (group (value g) (value h) .nodes) × Single (opt (value h) .nodes)
@@ -436,7 +436,7 @@ module _ (K T : List ℕ) where
   -- the first row of VALUES and those after it; after COMMA, where the rows before are y, all of this width
   abbrev pub ValuesOK : ℕ → Type 0
   ValuesOK f = (at : ℕ) (c : Around)
-      → Reads c (any Rows) at (valuesW K T f at c 0 0) (λ y s m rs. (m ≡ count (value y .nodes)) × (rs ≡ recs (value y)))
+      → Reads c (any Rows) at (rowsW K T f at c 0 0) (λ y s m rs. (m ≡ count (value y .nodes)) × (rs ≡ recs (value y)))
 
   abbrev pub nextRow : Row
   nextRow = part row-next-row (lit LP ∷ nt (E 1) ∷ nt (any Exprs?) ∷ lit RP ∷ [])
@@ -462,7 +462,7 @@ module _ (K T : List ℕ) where
 
   abbrev pub RowsOK : ℕ → Type 0
   RowsOK f = (at : ℕ) (c : Around) (n width : ℕ) (y : Tree) (u : Tok) → 0 < width → widthOf y ≡ width → n ≡ count (value y .nodes)
-      → Told (valuesW K T f at c n width)
+      → Told (rowsW K T f at c n width)
       (λ a s m rs. (z : Tree) × (rests K T (record { c = c; A = any Rows; r = nextRow; l = y; t = u }) (nextRow .items) nil at ≡ got z a (from K T a))
       × (m ≡ count (value z .nodes)) × (recs (value z) ≡ recs (value y) ++ rs))
       (λ m p. rests K T (record { c = c; A = any Rows; r = nextRow; l = y; t = u }) (nextRow .items) nil at ≡ refused m p)

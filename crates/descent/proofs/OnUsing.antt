@@ -76,7 +76,7 @@ module _ (K T : List ℕ) (good : Good K T) (f : ℕ) where
       told-bind (namesW K T f (at + 1 + 1) 0) _ (ok (at + 1 + 1) 0 F (lit RP ∷ []) k)
       (λ a s n rs p. let k' = add (add k (p .0)) (p .1) in
       told-bind (closeW K T a 11 0 n (length rs)) _ (close-ok F [] k' a 11 0 n (length rs) refl)
-      (λ d s m qs q. let t = using-records rs n (value (p .0)) (value (p .1)) (value (node usingRow nil (tokAt K T at) (add k' (leaf (tokAt K T a))))) (p .5) (p .3) (p .4) refl in told-done d 0 0 (rs ++ qs) (
+      (λ d s m qs q. let t = using-records rs n (value (p .0)) (value (p .1)) (value (node usingRow nil (tokAt K T at) (add k' (leaf (tokAt K T a))))) (p .5) (p .3) (p .4) refl in told-done d s m (rs ++ qs) (
         node usingRow nil (tokAt K T at) (add k' (leaf (tokAt K T a))),
         l ∙ p .2 ∙ q .0 ∙ whole K T good c On? usingRow at (add k' (leaf (tokAt K T a))) d refl,
         (ap (λ z. rs ++ z) (q .2) ∙ t .0, t .1),

@@ -21,7 +21,7 @@ use Rattle.grammar.specs.Nodes.{count, beside, Rec}
 use Rattle.grammar.specs.Reading.{Val, empty, side, one, choose, isQueryVal, value, _#_}
 use Rattle.descent.proofs.Places.{kindAt, tokAt, wrong, OpenRow}
 use Rattle.descent.proofs.Named.{parensRow, existsRow, own}
-use Rattle.descent.proofs.Walk.{over, κ, exprW, listW, bracketedW, queryW}
+use Rattle.descent.proofs.Walk.{over, κ, exprW, listW, subW, queryW}
 use Rattle.descent.proofs.Grown.{recs}
 use Rattle.descent.proofs.Steps.{nt-got, nt-refused, lit-got, lit-wrong, row-stop}
 use Rattle.descent.proofs.ClassFacts.{out, none-of-2, firsts-Query, Query-at-SELECT, Query-at-VALUES, Query-may, Paren-at-SELECT, Paren-at-VALUES, Paren-may}
@@ -114,7 +114,7 @@ module _ (K T : List ℕ) (good : Good K T) (f : ℕ) where
   unfolding exprW own mem pick capOf
   paren-ok bracketed host = row-ok K T parensRow _ (λ at c d A t e. let F : OpenRow = record { c = d; A = A; r = parensRow; l = nil; t = t } in
       told-choose (both (leb SELECT (kindAt K at)) (leb (kindAt K at) VALUES)) _ _
-      (λ z. told-map (bracketedW K T f at c 34) (bracketed at c 34 Paren F nil (inr (refl, one-of-two (kindAt K at) (leb-le SELECT (kindAt K at) (both-l _ _ z)) (leb-le (kindAt K at) VALUES (both-r _ _ z)))) e refl)
+      (λ z. told-map (subW K T f at c 34) (bracketed at c 34 Paren F nil (inr (refl, one-of-two (kindAt K at) (leb-le SELECT (kindAt K at) (both-l _ _ z)) (leb-le (kindAt K at) VALUES (both-r _ _ z)))) e refl)
       (λ a s m rs q. let v = is-parens t (q .0) (q .1) node-subquery 1 (recs (value (q .0))) (query-code (value (q .0)) (q .3)) refl (sym (single-count (value (q .0) .nodes) (q .4))) in
       (add (add nil (q .0)) (leaf (q .1)), q .2, q .5, omega arith, v .0, v .1, q .6 ∙ v .2)) (λ m p q. q))
       (λ z. told-bind (listW K T f at c 0) _ (host at c Paren F nil refl (no-query-kind (kindAt K at) z) (λ z. 0≢1 (sym Paren-may ∙ z)) e refl)
@@ -129,7 +129,7 @@ module _ (K T : List ℕ) (good : Good K T) (f : ℕ) where
   exists-ok bracketed = row-ok K T existsRow _ (λ at c d A t e. let F : OpenRow = record { c = d; A = A; r = existsRow; l = nil; t = t } in
       told-choose (eqb (kindAt K at) LP) _ _
       (λ z. let l = lit-got K T (good .sound) F LP (nt (any Query) ∷ lit RP ∷ []) nil at (omega arith) (eqb-eq (kindAt K at) LP z) (no-word d existsRow nil t _ _ refl) in
-      told-map (bracketedW K T f (at + 1) c 35) (bracketed (at + 1) c 35 Query F (add nil (leaf (tokAt K T at))) (inl refl) e refl)
+      told-map (subW K T f (at + 1) c 35) (bracketed (at + 1) c 35 Query F (add nil (leaf (tokAt K T at))) (inl refl) e refl)
       (λ a s m rs q. let v = is-one _ row-exists node-exists 0 1 (value (q .0) ∷ []) (recs (value (q .0))) (value-in-exists t (tokAt K T at) (q .0) (q .1)) (sym (recsAll-1 (value (q .0))))
       (sym (count-1 (value (q .0)) ∙ single-count (value (q .0) .nodes) (q .4))) in
       (add (add (add nil (leaf (tokAt K T at))) (q .0)) (leaf (q .1)), l ∙ q .2, q .5, omega arith, v .0, v .1, q .6 ∙ v .2))

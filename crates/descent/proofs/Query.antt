@@ -22,7 +22,7 @@ use Rattle.grammar.specs.Limits.{Around, isQuery, below, begun, judge}
 use Rattle.grammar.specs.Nodes.{count, Rec, records}
 use Rattle.grammar.specs.Reading.{Val, one, opt, column, limitAndOffset, group, rules, ruled, valueOf, value, values, _#_}
 use Rattle.descent.proofs.Places.{kindAt, tokAt, wrong, OpenRow, calls, rests}
-use Rattle.descent.proofs.Walk.{opening, over, queryW, bodyW, tailW, valuesW, selectW}
+use Rattle.descent.proofs.Walk.{opening, over, queryW, bodyW, tailW, rowsW, selectW}
 use Rattle.descent.proofs.Grown.{recs}
 use Rattle.descent.proofs.Steps.{nt-got, nt-refused, call-in, call-word, call-wrong}
 use Rattle.descent.proofs.Means.{Single, Good, QueryOK, BodyOK, SelectOK, ValuesOK, TailOK}
@@ -82,7 +82,7 @@ module _ (K T : List ℕ) (good : Good K T) (f : ℕ) where
       told-choose (leb QUERIES (c .opened)) _ _
       (λ y. told-stop 6 at (too-many at c A r h refl refl y))
       (λ y. let F : OpenRow = record { c = c; A = A; r = r; l = nil; t = tokAt K T at } in let b = opens at c A r h refl refl y in
-      told-bind (valuesW K T f (at + 1) (opening c) 0 0) _ (va (at + 1) (opening c))
+      told-bind (rowsW K T f (at + 1) (opening c) 0 0) _ (va (at + 1) (opening c))
       (λ a s n rs p. told-done a 0 0 (over 3 0 n 0 rs) (
         r,
         add nil (p .0),

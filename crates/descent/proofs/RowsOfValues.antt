@@ -22,7 +22,7 @@ use Rattle.grammar.specs.Limits.{Around, isQuery, members, lastChild, childrenB
 use Rattle.grammar.specs.Nodes.{end, count, beside, Rec, records}
 use Rattle.grammar.specs.Reading.{side, one, rules, ruled, valueOf, value}
 use Rattle.descent.proofs.Places.{kindAt, tokAt, wrong, OpenRow, calls, rests}
-use Rattle.descent.proofs.Walk.{Walked, done, stop, notB, over, wrongAt, exprW, listW, valuesW, rowW}
+use Rattle.descent.proofs.Walk.{Walked, done, stop, notB, over, wrongAt, exprW, listW, rowsW, rowW}
 use Rattle.descent.proofs.Grown.{recsAll, recs}
 use Rattle.descent.proofs.Steps.{lit-got, lit-word, lit-wrong, call-in, call-wrong, row-on, row-stop}
 use Rattle.descent.proofs.Growing.{records-beside, side-cons, count-beside}
@@ -175,7 +175,7 @@ module _ (K T : List ℕ) (good : Good K T) (f : ℕ) where
       told-choose (eqb (kindAt K a) COMMA) _ (done a 0 1 rs)
       (λ z. let on = row-on K T (good .sound) F (p .0) a (nextRow K T) (ap (contOf sql (any Rows) (firstRow K T) (capOf (p .0))) (eqb-eq (kindAt K a) COMMA z) ∙ rows-on (firstRow K T) (capOf (p .0)) K T)
       (goes-no-word c (nextRow K T) (firstRow K T) nil (tokAt K T at) (tokAt K T a) (p .0)) in
-      told-onto rs (valuesW K T f (a + 1) c (0 + 1) w) (more (a + 1) c 1 w y (tokAt K T a) (p .2) (sym (wide-of (p .0) w (p .3))) (sym (single-count (value y .nodes) (p .5))))
+      told-onto rs (rowsW K T f (a + 1) c (0 + 1) w) (more (a + 1) c 1 w y (tokAt K T a) (p .2) (sym (wide-of (p .0) w (p .3))) (sym (single-count (value y .nodes) (p .5))))
       (λ b s m qs q. (q .0, p .1 ∙ on ∙ q .1, (q .2, rw (p .4) (sym (q .3)))))
       (λ m q e. p .1 ∙ on ∙ e))
       (λ z. told-done a 0 1 rs (y, p .1 ∙ row-stop K T (good .sound) F (p .0) a (rows-off (kindAt K a) (eqb-false (kindAt K a) COMMA z) (firstRow K T) (capOf (p .0))), (sym (single-count (value y .nodes) (p .5)), p .4))))
@@ -192,7 +192,7 @@ module _ (K T : List ℕ) (good : Good K T) (f : ℕ) where
       told-choose (eqb (kindAt K a) COMMA) _ (done a 0 (n + 1) rs)
       (λ z. let on = row-on K T (good .sound) F (p .0) a (nextRow K T) (ap (contOf sql (any Rows) (nextRow K T) (capOf (p .0))) (eqb-eq (kindAt K a) COMMA z) ∙ rows-on (nextRow K T) (capOf (p .0)) K T)
       (goes-no-word c (nextRow K T) (nextRow K T) y u (tokAt K T a) (p .0)) in
-      told-onto rs (valuesW K T f (a + 1) c (n + 1) w) (more (a + 1) c (n + 1) w x (tokAt K T a) (omega (arith, p .2, pos)) (sym (wide-of y u (p .0) w (p .3))) (omega (arith, p .4, n-is)))
+      told-onto rs (rowsW K T f (a + 1) c (n + 1) w) (more (a + 1) c (n + 1) w x (tokAt K T a) (omega (arith, p .2, pos)) (sym (wide-of y u (p .0) w (p .3))) (omega (arith, p .4, n-is)))
       (λ b s m qs q. (q .0, p .1 ∙ on ∙ q .1, q .2, q .3 ∙ ap (λ z. z ++ qs) (p .5) ∙ append-assoc (recs (value y)) rs qs))
       (λ m q e. p .1 ∙ on ∙ e))
       (λ z. told-done a 0 (n + 1) rs (x, p .1 ∙ row-stop K T (good .sound) F (p .0) a (rows-off (kindAt K a) (eqb-false (kindAt K a) COMMA z) (nextRow K T) (capOf (p .0))), omega (arith, p .4, n-is), p .5)))

@@ -21,7 +21,7 @@ use Rattle.grammar.specs.Limits.{Around, isQuery, below}
 use Rattle.grammar.specs.Nodes.{count, Rec}
 use Rattle.grammar.specs.Reading.{Val, one, opt, column, group, rules, ruled, valueOf, value, values}
 use Rattle.descent.proofs.Places.{kindAt, tokAt, from, OpenRow, calls, rests}
-use Rattle.descent.proofs.Walk.{over, selectW, selectedW, clausesW, columnsW}
+use Rattle.descent.proofs.Walk.{over, selectW, selectedW, partsW, colsW}
 use Rattle.descent.proofs.Grown.{recs}
 use Rattle.descent.proofs.Steps.{nt-got}
 use Rattle.descent.proofs.ClassFacts.{none-of-2, firsts-Distinct, Distinct-at-DISTINCT, Distinct-at-ALL, Distinct-may}
@@ -47,8 +47,8 @@ module _ (K T : List ℕ) (good : Good K T) (f : ℕ) where
   pub selected-ok : ColumnsOK K T f → ClausesOK K T f → SelectedOK K T (suc f)
   unfolding selectedW
   selected-ok co cl at c detail F is k e = let clauses = nt (any From?) ∷ nt (any Where?) ∷ nt (any Group?) ∷ nt (any Having?) ∷ is in
-      told-bind (columnsW K T f at c 0) _ (co at c 0 F clauses k e)
-      (λ a x n rs p. told-bind (clausesW K T f a c) _ (cl a c F is (add (add k (p .0)) (p .1)) e)
+      told-bind (colsW K T f at c 0) _ (co at c 0 F clauses k e)
+      (λ a x n rs p. told-bind (partsW K T f a c) _ (cl a c F is (add (add k (p .0)) (p .1)) e)
       (λ b x m qs q. told-done b 0 0 (over 2 detail 5 0 (over 4 0 n 0 rs ++ qs)) (
         p .0,
         p .1,

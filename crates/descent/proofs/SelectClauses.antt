@@ -1,4 +1,4 @@
--- GROUP BY and HAVING, and FROM, WHERE, GROUP BY, HAVING in that order, are read as the grammar says (groupW, clausesW). Assumes nothing.
+-- GROUP BY and HAVING, and FROM, WHERE, GROUP BY, HAVING in that order, are read as the grammar says (groupW, partsW). Assumes nothing.
 use mathlib.Core.Bool.{true, false}
 use mathlib.Core.List.{List, [], _∷_, _++_, append-assoc}
 use mathlib.Core.Path.{_≡_, refl, sym, ap, _∙_, ap₂}
@@ -20,7 +20,7 @@ use Rattle.grammar.specs.Limits.{Around, isQuery, below}
 use Rattle.grammar.specs.Nodes.{end, count, Rec, rec, records}
 use Rattle.grammar.specs.Reading.{Val, empty, side, one, choose, isEnd, none-there, opt, group, rules, ruled, valueOf, value, values, _#_}
 use Rattle.descent.proofs.Places.{kindAt, tokAt, from, wrong, calls, rests}
-use Rattle.descent.proofs.Walk.{missing, over, exprW, listW, clausesW, clauseW, groupW, fromW}
+use Rattle.descent.proofs.Walk.{missing, over, exprW, listW, partsW, clauseW, groupW, fromW}
 use Rattle.descent.proofs.Grown.{recs}
 use Rattle.descent.proofs.Steps.{nt-got, nt-refused}
 use Rattle.descent.proofs.ClassFacts.{none-of-1, firsts-Group, Group-at-GROUP, Group-may, firsts-Having, Having-at-HAVING, Having-may}
@@ -142,7 +142,7 @@ module _ (K T : List ℕ) (good : Good K T) (f : ℕ) where
       )))
 
   pub clauses-ok : FromOK K T f → ClauseOK K T f → GroupOK K T f → ClausesOK K T (suc f)
-  unfolding clausesW
+  unfolding partsW
   clauses-ok fr cl gr at c F is k e =
       let is2 = nt (any Group?) ∷ nt (any Having?) ∷ is in let is1 = nt (any Where?) ∷ is2 in
       told-bind (fromW K T f at c) _ (fr at c)

@@ -134,7 +134,7 @@ module _ (K T : List ℕ) where
   namesW (suc f) at n = bind (nameW at) (λ a s m rs. choose (eqb (κ a) COMMA) (onto rs (namesW f (a + 1) (n + 1))) (done a 0 (n + 1) rs))
 
   unfoldable pub usingW : ℕ → ℕ → Walked
-  usingW f at = choose (eqb (κ at) LP) (bind (namesW f (at + 1) 0) (λ a s n rs. bind (closeW a 11 0 n (length rs)) (λ b s m qs. done b 0 0 (rs ++ qs)))) (wrongAt at)
+  usingW f at = choose (eqb (κ at) LP) (bind (namesW f (at + 1) 0) (λ a s n rs. bind (closeW a 11 0 n (length rs)) (λ b s m qs. done b s m (rs ++ qs)))) (wrongAt at)
 
   -- RP of IN, after these records
   unfoldable pub endedW : ℕ → ℕ → ℕ → ℕ → List Rec → Walked
@@ -145,7 +145,7 @@ module _ (K T : List ℕ) where
     pub exprW : ℕ → ℕ → Around → ℕ → Walked
     exprW zero at c s = spent
     exprW (suc f) at c s = choose (ltb LEVELS (c .level)) (tooDeepW at s)
-        (bind (choose (both (leb ID (κ at)) (leb (κ at) NULL)) (leafW f at c s) (compoundW f at c s))
+        (bind (choose (both (leb ID (κ at)) (leb (κ at) NULL)) (leafW f at c s) (operandW f at c s))
         (λ a left n rs. onto rs (opsW f a c s left (length rs))))
 
     pub leafW : ℕ → ℕ → Around → ℕ → Walked
@@ -153,9 +153,9 @@ module _ (K T : List ℕ) where
     leafW (suc f) at c s = choose (ltb 0 (literalCode (κ at))) (done (at + 1) 12 0 (rec (literalCode (κ at)) (choose (eqb (κ at) NULL) 0 (τ at)) 0 1 ∷ []))
         (choose (both (eqb (κ (at + 1)) LP) (headsCall (κ at))) (onto (nameRec at ∷ []) (callW f (at + 2) (deeper c))) (onto (nameRec at ∷ []) (dottedW (at + 1) s)))
 
-    pub compoundW : ℕ → ℕ → Around → ℕ → Walked
-    compoundW zero at c s = spent
-    compoundW (suc f) at c s =
+    pub operandW : ℕ → ℕ → Around → ℕ → Walked
+    operandW zero at c s = spent
+    operandW (suc f) at c s =
         choose (eqb (κ at) LP) (parenW f (at + 1) (deeper c))
         (choose (eqb (κ at) CASE) (caseW f (at + 1) (deeper c))
         (choose (eqb (κ at) CAST) (castW f (at + 1) (deeper c))
@@ -169,11 +169,11 @@ module _ (K T : List ℕ) where
         choose (eqb (strengthOf (κ at)) 0) (done at left 0 [])
         (choose (ltb (strengthOf (κ at)) s) (done at left 0 [])
         (choose (ltb left (strengthOf (κ at))) (done at left 0 [])
-        (bind (operatorW f at (deeper c) (strengthOf (κ at) + 1) pre) (λ a x n rs. onto rs (opsW f a c s (strengthOf (κ at)) (pre + length rs))))))
+        (bind (opW f at (deeper c) (strengthOf (κ at) + 1) pre) (λ a x n rs. onto rs (opsW f a c s (strengthOf (κ at)) (pre + length rs))))))
 
-    pub operatorW : ℕ → ℕ → Around → ℕ → ℕ → Walked
-    operatorW zero at c s pre = spent
-    operatorW (suc f) at c s pre =
+    pub opW : ℕ → ℕ → Around → ℕ → ℕ → Walked
+    opW zero at c s pre = spent
+    opW (suc f) at c s pre =
         choose (ltb (κ at) NOT) (binaryW f (at + 1) c s (κ at) pre)
         (choose (eqb (κ at) NOT) (negatedW f (at + 1) c s pre)
         (choose (eqb (κ at) IN) (insideW f (at + 1) c 0 pre)
@@ -235,25 +235,25 @@ module _ (K T : List ℕ) where
     -- after LP: ( query ) or ( expressions )
     pub parenW : ℕ → ℕ → Around → Walked
     parenW zero at c = spent
-    parenW (suc f) at c = choose (both (leb SELECT (κ at)) (leb (κ at) VALUES)) (bracketedW f at c 34)
+    parenW (suc f) at c = choose (both (leb SELECT (κ at)) (leb (κ at) VALUES)) (subW f at c 34)
         (bind (listW f at c 0) (λ a x n rs. onto rs (closeW a 33 0 n (length rs))))
 
-    pub bracketedW : ℕ → ℕ → Around → ℕ → Walked
-    bracketedW zero at c code = spent
-    bracketedW (suc f) at c code = bind (queryW f at c) (λ a x n rs. onto rs (closeW a code 0 1 (length rs)))
+    pub subW : ℕ → ℕ → Around → ℕ → Walked
+    subW zero at c code = spent
+    subW (suc f) at c code = bind (queryW f at c) (λ a x n rs. onto rs (closeW a code 0 1 (length rs)))
 
     pub existsW : ℕ → ℕ → Around → Walked
     existsW zero at c = spent
-    existsW (suc f) at c = choose (eqb (κ at) LP) (bracketedW f (at + 1) c 35) (wrongAt at)
+    existsW (suc f) at c = choose (eqb (κ at) LP) (subW f (at + 1) c 35) (wrongAt at)
 
     pub caseW : ℕ → ℕ → Around → Walked
     caseW zero at c = spent
-    caseW (suc f) at c = bind (baseW f at c) (λ a x n rs. bind (whensW f a c 0) (λ b x m qs. bind (clauseW f b ELSE c) (λ d x n ps.
+    caseW (suc f) at c = bind (casedW f at c) (λ a x n rs. bind (whensW f a c 0) (λ b x m qs. bind (clauseW f b ELSE c) (λ d x n ps.
         choose (eqb (κ d) END) (done (d + 1) 12 0 (over 36 0 (m + 2) 0 (rs ++ (qs ++ ps)))) (wrongAt d))))
 
-    pub baseW : ℕ → ℕ → Around → Walked
-    baseW zero at c = spent
-    baseW (suc f) at c = choose (eqb (κ at) WHEN) (done at 0 0 (missing ∷ [])) (exprW f at c 1)
+    pub casedW : ℕ → ℕ → Around → Walked
+    casedW zero at c = spent
+    casedW (suc f) at c = choose (eqb (κ at) WHEN) (done at 0 0 (missing ∷ [])) (exprW f at c 1)
 
     -- WHEN expression THEN expression: n expressions before
     pub whensW : ℕ → ℕ → Around → ℕ → Walked
@@ -273,7 +273,7 @@ module _ (K T : List ℕ) where
     pub bodyW : ℕ → ℕ → Around → Walked
     bodyW zero at c = spent
     bodyW (suc f) at c = choose (eqb (κ at) SELECT) (choose (leb QUERIES (c .opened)) (stop 6 at) (selectW f (at + 1) (opening c)))
-        (choose (eqb (κ at) VALUES) (choose (leb QUERIES (c .opened)) (stop 6 at) (bind (valuesW f (at + 1) (opening c) 0 0) (λ a x n rs. done a 0 0 (over 3 0 n 0 rs)))) (wrongAt at))
+        (choose (eqb (κ at) VALUES) (choose (leb QUERIES (c .opened)) (stop 6 at) (bind (rowsW f (at + 1) (opening c) 0 0) (λ a x n rs. done a 0 0 (over 3 0 n 0 rs)))) (wrongAt at))
 
     -- ORDER BY and LIMIT
     pub tailW : ℕ → ℕ → Around → Walked
@@ -281,9 +281,9 @@ module _ (K T : List ℕ) where
     tailW (suc f) at c = choose (eqb (κ at) ORDER) (bind (orderW f (at + 1) c) (λ a x n rs. onto rs (limitW f a c))) (onto (missing ∷ []) (limitW f at c))
 
     -- rows of VALUES: n before them, of this width (0: no matter)
-    pub valuesW : ℕ → ℕ → Around → ℕ → ℕ → Walked
-    valuesW zero at c n width = spent
-    valuesW (suc f) at c n width = bind (rowW f at c width) (λ a x w rs. choose (eqb (κ a) COMMA) (onto rs (valuesW f (a + 1) c (n + 1) w)) (done a 0 (n + 1) rs))
+    pub rowsW : ℕ → ℕ → Around → ℕ → ℕ → Walked
+    rowsW zero at c n width = spent
+    rowsW (suc f) at c n width = bind (rowW f at c width) (λ a x w rs. choose (eqb (κ a) COMMA) (onto rs (rowsW f (a + 1) c (n + 1) w)) (done a 0 (n + 1) rs))
 
     pub rowW : ℕ → ℕ → Around → ℕ → Walked
     rowW zero at c width = spent
@@ -296,11 +296,11 @@ module _ (K T : List ℕ) where
 
     pub selectedW : ℕ → ℕ → Around → ℕ → Walked
     selectedW zero at c detail = spent
-    selectedW (suc f) at c detail = bind (columnsW f at c 0) (λ a x n rs. bind (clausesW f a c) (λ b x m qs. done b 0 0 (over 2 detail 5 0 (over 4 0 n 0 rs ++ qs))))
+    selectedW (suc f) at c detail = bind (colsW f at c 0) (λ a x n rs. bind (partsW f a c) (λ b x m qs. done b 0 0 (over 2 detail 5 0 (over 4 0 n 0 rs ++ qs))))
 
-    pub clausesW : ℕ → ℕ → Around → Walked
-    clausesW zero at c = spent
-    clausesW (suc f) at c = bind (fromW f at c) (λ a x n rs. bind (clauseW f a WHERE c) (λ b x n qs. onto (rs ++ qs) (groupW f b c)))
+    pub partsW : ℕ → ℕ → Around → Walked
+    partsW zero at c = spent
+    partsW (suc f) at c = bind (fromW f at c) (λ a x n rs. bind (clauseW f a WHERE c) (λ b x n qs. onto (rs ++ qs) (groupW f b c)))
 
     -- an optional clause of a word and an expression
     pub clauseW : ℕ → ℕ → ℕ → Around → Walked
@@ -313,14 +313,14 @@ module _ (K T : List ℕ) where
         (choose (eqb (κ at) HAVING) (onto (rec 4 0 0 1 ∷ []) (exprW f (at + 1) c 1)) (done at 0 0 (missing ∷ missing ∷ [])))
 
     -- columns: n before them
-    pub columnsW : ℕ → ℕ → Around → ℕ → Walked
-    columnsW zero at c n = spent
-    columnsW (suc f) at c n = bind (columnW f at c) (λ a x m rs. choose (eqb (κ a) COMMA) (onto rs (columnsW f (a + 1) c (n + 1))) (done a 0 (n + 1) rs))
+    pub colsW : ℕ → ℕ → Around → ℕ → Walked
+    colsW zero at c n = spent
+    colsW (suc f) at c n = bind (colW f at c) (λ a x m rs. choose (eqb (κ a) COMMA) (onto rs (colsW f (a + 1) c (n + 1))) (done a 0 (n + 1) rs))
 
-    pub columnW : ℕ → ℕ → Around → Walked
-    columnW zero at c = spent
-    columnW (suc f) at c = choose (eqb (κ at) STAR) (done (at + 1) 0 0 (rec 5 0 0 1 ∷ []))
-        (bind (exprW f at c 0) (λ a said n rs. choose (eqb said 0) (done a 0 0 rs) (bind (aliasW a) (λ b mode n qs. done b 0 0 (over 7 mode 2 0 (rs ++ qs))))))
+    pub colW : ℕ → ℕ → Around → Walked
+    colW zero at c = spent
+    colW (suc f) at c = choose (eqb (κ at) STAR) (done (at + 1) 0 0 (rec 5 0 0 1 ∷ []))
+        (bind (exprW f at c 0) (λ a said n rs. choose (eqb said 0) (done a said n rs) (bind (aliasW a) (λ b mode n qs. done b 0 0 (over 7 mode 2 0 (rs ++ qs))))))
 
     pub fromW : ℕ → ℕ → Around → Walked
     fromW zero at c = spent
@@ -360,11 +360,11 @@ module _ (K T : List ℕ) where
     limitW (suc f) at c = choose (eqb (κ at) LIMIT)
         (bind (exprW f (at + 1) c 1) (λ a x n rs.
         choose (eqb (κ a) OFFSET) (onto rs (exprW f (a + 1) c 1))
-        (choose (eqb (κ a) COMMA) (bind (exprW f (a + 1) c 1) (λ b x n qs. done b 0 0 (qs ++ rs))) (done a 0 0 (rs ++ (missing ∷ []))))))
+        (choose (eqb (κ a) COMMA) (bind (exprW f (a + 1) c 1) (λ b x m qs. done b x m (qs ++ rs))) (done a 0 0 (rs ++ (missing ∷ []))))))
         (done at 0 0 (missing ∷ missing ∷ []))
 
   -- a query, then the end of the list or one SEMI and the end
   unfoldable pub commandW : ℕ → Walked
   commandW f = bind (queryW f 0 outer) (λ a x n rs.
-      choose (eqb (κ a) 0) (done a 0 0 rs)
-      (choose (eqb (κ a) SEMI) (choose (eqb (κ (a + 1)) 0) (done (a + 1) 0 0 rs) (wrongAt (a + 1))) (wrongAt a)))
+      choose (eqb (κ a) 0) (done a x n rs)
+      (choose (eqb (κ a) SEMI) (choose (eqb (κ (a + 1)) 0) (done a x n rs) (wrongAt (a + 1))) (wrongAt a)))

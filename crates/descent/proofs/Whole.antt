@@ -80,11 +80,11 @@ module _ (K T : List ℕ) (good : Good K T) where
       let with' : kindAt K a ≡ SEMI → calls K T outer (any Command) 0 ≡ got y (a + 1) (from K T (a + 1))
       = λ h. p .2 ∙ nt-got K T (good .sound) F (any Semi?) [] (p .1) a (semi (below (p .0) outer) a h)
       ∙ row-stop K T (good .sound) F (add (p .1) (node semiRow nil (tokAt K T a) nil)) (a + 1) (ends Command refl (p .0) (capOf (add (p .1) (node semiRow nil (tokAt K T a) nil))) (kindAt K (a + 1))) in
-      told-choose (eqb (kindAt K a) 0) (done a 0 0 rs) _
-      (λ z. told-done a 0 0 rs (x, parsed-whole x a (without (λ h. absurd (let k = eqb-eq (kindAt K a) 0 z in omega (arith, h, k)))) (eqb-eq (kindAt K a) 0 z), sym (p .8 nil .records)))
+      told-choose (eqb (kindAt K a) 0) (done a s n rs) _
+      (λ z. told-done a s n rs (x, parsed-whole x a (without (λ h. absurd (let k = eqb-eq (kindAt K a) 0 z in omega (arith, h, k)))) (eqb-eq (kindAt K a) 0 z), sym (p .8 nil .records)))
       (λ z. told-choose (eqb (kindAt K a) SEMI) _ (wrongAt K T a)
-      (λ v. told-choose (eqb (kindAt K (a + 1)) 0) (done (a + 1) 0 0 rs) (wrongAt K T (a + 1))
-      (λ w. told-done (a + 1) 0 0 rs (y, parsed-whole y (a + 1) (with' (eqb-eq (kindAt K a) SEMI v)) (eqb-eq (kindAt K (a + 1)) 0 w), sym (p .8 (node semiRow nil (tokAt K T a) nil) .records)))
+      (λ v. told-choose (eqb (kindAt K (a + 1)) 0) (done a s n rs) (wrongAt K T (a + 1))
+      (λ w. told-done a s n rs (y, parsed-whole y (a + 1) (with' (eqb-eq (kindAt K a) SEMI v)) (eqb-eq (kindAt K (a + 1)) 0 w), sym (p .8 (node semiRow nil (tokAt K T a) nil) .records)))
       (λ w. told-stop (wrong (kindAt K (a + 1))) (a + 1) (parsed-more y (a + 1) (with' (eqb-eq (kindAt K a) SEMI v)) (eqb-false (kindAt K (a + 1)) 0 w))))
       (λ v. told-stop (wrong (kindAt K a)) a (parsed-more x a (without (eqb-false (kindAt K a) SEMI v)) (eqb-false (kindAt K a) 0 z)))))
       (λ m p e. by-descent ∙ rw e)

@@ -1,3 +1,9 @@
+mod Operators
+mod KindTests
+mod Laying
 mod Steps
 mod TwoLists
 mod Tables
+mod Turning
+mod Fitness
+mod Answering

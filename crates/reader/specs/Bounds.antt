@@ -10,8 +10,6 @@ use denote.Ref.{RefT, now}
 use Rattle.reader.specs.declared.Cursor.{Cursor}
 use Rattle.reader.specs.declared.Step.{Step}
 use Rattle.reader.specs.declared.Step.the-variants as step
-use Rattle.reader.specs.declared.Answer.{Answer}
-use Rattle.reader.specs.declared.Answer.the-variants as answer
 
 -- what the reader is lent: the kinds and the texts of the tokens
 abbrev pub Lists : Type 0
@@ -118,11 +116,3 @@ gotOf said count at made = step.Got said count (record { at = at; made = made })
 -- the measure of the readers, which call one another: tokens left, then the rank of the reader
 abbrev pub rank : ℕ → Lists → ℕ → ℕ
 rank k io at = (tokens io - at) * 64 + k
-
--- what a call leaves of the node table N: "a refused reading changes no lent number"; what is accepted fits the table
-abbrev pub KeepsAt : List ℕ → List ℕ → Answer → Type 0
-KeepsAt N N' (answer.Accepted n) = n * 4 ≤ length N
-KeepsAt N N' (answer.Refused m p) = N' ≡ N
-
-pub record Keeps (N N' : List ℕ) (a : Answer) : Type 0 where
-  pub holds : KeepsAt N N' a

@@ -1,1 +1,4 @@
 pub mod Bounds
+pub mod Laying
+pub mod Turning
+pub mod Answers

@@ -1,10 +1,22 @@
 // The reader: a list of tokens into records, or a refusal. One walker for both passes: the first, lent an
 // empty table, judges and counts; the second writes.
 ghost use mathlib.Core.Path.{_≡_};
-ghost use Prim.Native.Nat.{_+_, _*_, _/_, _<_, _≤_};
+ghost use Prim.Native.Nat.{ℕ, _+_, _-_, _*_, _/_, _<_, _≤_};
 ghost use mathlib.Core.Bool.{true};
+ghost use mathlib.Core.List.{List, [], _∷_, _++_};
+ghost use lib.Dec.{eqb};
 ghost use lib.ListN.{length, getD};
-ghost use Rattle.reader.specs.Bounds.{tokens, textsOf, greatestLike, queriesOf, strengthAsked, Asks, Ready, Seen, Within, Refuses, OneOn, Opens, NullBefore, gotOf, Keeps};
+ghost use Rattle.kinds.specs.Kinds.{STAR, AS};
+ghost use Rattle.kinds.specs.Fit.{fits};
+ghost use Rattle.grammar.specs.Nodes.{Rec};
+ghost use Rattle.grammar.specs.Reading.{choose};
+ghost use Rattle.descent.proofs.Fill.{Filled};
+ghost use Rattle.descent.proofs.Walk.{done, bind, deeper, nameRec, nameW, closeW, dottedW, dotsW, calledW, collateW, aliasW, qualifiedW, indexW, tableW, lentW, nullsW, wayW, joinedW, usingW, endedW, exprW, leafW, operandW, opsW, opW, binaryW, betweenW, afterW, insideW, listW, prefixW, callW, parenW, subW, existsW, caseW, casedW, whensW, castW, queryW, bodyW, tailW, rowW, selectW, partsW, clauseW, groupW, colsW, colW, fromW, joinsW, onW, sourceW, orderW, limitW, commandW};
+ghost use Rattle.reader.specs.Laying.{Laid, Lays, Later, Passes, Does, Misfit, TooDeep, one, absences, nameAt, literalText, notNullW, allRowsW, isBare, beginsJoin, FitLists, UnfitAt};
+ghost use Rattle.reader.specs.Turning.{swappedAt, Turned};
+ghost use Rattle.reader.specs.Bounds.{tokens, kindsOf, textsOf, greatestLike, queriesOf, strengthAsked, Asks, Ready, Seen, Within, Refuses, OneOn, Opens, NullBefore, gotOf};
+ghost use Rattle.reader.specs.Answers.{number, place};
+ghost use Rattle.grammar.specs.Promise.{Reads};
 use kinds::ALL;
 use kinds::AND;
 use kinds::AS;
@@ -95,21 +107,23 @@ const QUERIES: u32 = 16;
 // What a column asks: an expression, or name DOT STAR besides.
 const COLUMN: u32 = 0;
 
-fn asked(ask: u32) -> u32 {
+fn asked(ask: u32) -> u32
+    ensures { λ r. ⌜ r ≡ strengthAsked ask ⌝ }
+{
     ask % QUERY
 }
 
 // The same place, another strength.
 fn asking(ask: u32, s: u32) -> u32
     requires { ⌜ Asks 66 ask × (s < 16) ⌝ }
-    ensures { λ r. ⌜ Asks 66 r × (strengthAsked r ≡ s) × (r ≡ ask / 16 * 16 + s) ⌝ }
+    ensures { λ r. ⌜ Asks 66 r × (strengthAsked r ≡ s) × (r ≡ ask / 16 * 16 + s) × Passes (λ c. c) ask s r ⌝ }
 {
     ask / QUERY * QUERY + s
 }
 
 fn deeper(ask: u32, s: u32) -> u32
     requires { ⌜ Asks 65 ask × (s < 16) ⌝ }
-    ensures { λ r. ⌜ Asks 66 r ⌝ }
+    ensures { λ r. ⌜ Asks 66 r × Passes deeper ask s r ⌝ }
 {
     asking(ask, s) + LEVEL
 }
@@ -141,7 +155,7 @@ fn text(io: &[&[u32]; 2], at: u32) -> u32
 // The token of this kind can't stand here: 3, or 4 at the end of the list.
 fn wrong(kind: u32, at: u32) -> Step
     requires { ⌜ at < 65536 ⌝ }
-    ensures { λ r. ⌜ Refuses at r ⌝ }
+    ensures { λ r. ⌜ Refuses at r × Misfit kind at r ⌝ }
 {
     if kind == 0 {
         return Step::Refused(4, at as u16);
@@ -165,14 +179,14 @@ fn counted(at: u32, made: u32, n: u32) -> Step
 // Stores a record as the one numbered `made`, if it fits whole, and counts it.
 fn emit(nodes: &mut [u32], made: u32, code: u32, detail: u32, children: u32, size: u32) -> u32
     requires { ⌜ made < 65536 ⌝ }
-    ensures { λ r. ⌜ r ≡ made + 1 ⌝ }
+    ensures { λ r. ⌜ (r ≡ made + 1) × Filled (now (nodes .entry)) (now (nodes .exit)) made r (one code detail children size) ⌝ }
 {
     store(nodes, made, code, detail, children, size)
 }
 
 fn store(nodes: &mut [u32], made: u32, code: u32, detail: u32, children: u32, size: u32) -> u32
     requires { ⌜ made < 65536 ⌝ }
-    ensures { λ r. ⌜ r ≡ made + 1 ⌝ }
+    ensures { λ r. ⌜ (r ≡ made + 1) × Filled (now (nodes .entry)) (now (nodes .exit)) made r (one code detail children size) ⌝ }
 {
     let base = made as usize * 4;
     if base + 4 <= nodes.len() {
@@ -187,7 +201,7 @@ fn store(nodes: &mut [u32], made: u32, code: u32, detail: u32, children: u32, si
 // Missing parts, n side by side.
 fn absent(nodes: &mut [u32], made: u32, n: u32) -> u32
     requires { ⌜ (made < 65536) × (n < 16) ⌝ }
-    ensures { λ r. ⌜ r ≡ made + n ⌝ }
+    ensures { λ r. ⌜ (r ≡ made + n) × Filled (now (nodes .entry)) (now (nodes .exit)) made r (absences n) ⌝ }
 {
     if n == 1 {
         return emit(nodes, made, 0, 0, 0, 1);
@@ -197,7 +211,7 @@ fn absent(nodes: &mut [u32], made: u32, n: u32) -> u32
 
 fn missing(nodes: &mut [u32], made: u32, n: u32) -> u32
     requires { ⌜ (made < 65536) × (n < 16) ⌝ }
-    ensures { λ r. ⌜ r ≡ made + n ⌝ }
+    ensures { λ r. ⌜ (r ≡ made + n) × Filled (now (nodes .entry)) (now (nodes .exit)) made r (absences n) ⌝ }
 {
     let end = made + n;
     let mut i = made;
@@ -218,14 +232,14 @@ fn missing(nodes: &mut [u32], made: u32, n: u32) -> u32
 // A name, of which the kind is known.
 fn named(io: &[&[u32]; 2], nodes: &mut [u32], at: u32, made: u32, kind: u32) -> u32
     requires { ⌜ Ready 0 (now io) at made × (at < tokens (now io)) ⌝ }
-    ensures { λ r. ⌜ r ≡ made + 1 ⌝ }
+    ensures { λ r. ⌜ (r ≡ made + 1) × (kind ≡ getD (kindsOf (now (io .entry))) at 0 → Filled (now (nodes .entry)) (now (nodes .exit)) made r (nameAt (now (io .entry)) at)) ⌝ }
 {
     emit(nodes, made, kinds::name_code(kind), text(io, at), 0, 1)
 }
 
 fn name(io: &[&[u32]; 2], nodes: &mut [u32], at: u32, made: u32) -> Step
     requires { ⌜ Ready 0 (now io) at made ⌝ }
-    ensures { λ r. ⌜ Within 1 0 (now (io .entry)) at made r × OneOn at r ⌝ }
+    ensures { λ r. ⌜ Within 1 0 (now (io .entry)) at made r × OneOn at r × Lays made (now (nodes .entry)) (now (nodes .exit)) (now (io .entry)) (λ K T. nameW K T at) r ⌝ }
 {
     let kind = peek(io, at);
     if !kinds::is_name(kind) {
@@ -246,7 +260,7 @@ fn close(
     n: u32,
 ) -> Step
     requires { ⌜ Ready 0 (now io) at made × (base ≤ made) ⌝ }
-    ensures { λ r. ⌜ Within 1 0 (now (io .entry)) at made r ⌝ }
+    ensures { λ r. ⌜ Within 1 0 (now (io .entry)) at made r × ((pre : ℕ) → made ≡ base + pre → Lays made (now (nodes .entry)) (now (nodes .exit)) (now (io .entry)) (λ K T. closeW K T at code 0 n pre) r) ⌝ }
 {
     let kind = peek(io, at);
     if kind != RP {
@@ -260,6 +274,7 @@ fn close(
 
 fn literal_text(io: &[&[u32]; 2], at: u32, kind: u32) -> u32
     requires { ⌜ Ready 0 (now io) at 0 × (at < tokens (now io)) ⌝ }
+    ensures { λ r. ⌜ r ≡ literalText (now (io .entry)) at kind ⌝ }
 {
     if kind == NULL {
         return 0;
@@ -270,7 +285,7 @@ fn literal_text(io: &[&[u32]; 2], at: u32, kind: u32) -> u32
 // An operand, and the operators that go on from it.
 fn expr(io: &[&[u32]; 2], nodes: &mut [u32], at: u32, made: u32, ask: u32) -> Step
     requires { ⌜ Ready 0 (now io) at made × Asks 66 ask ⌝ }
-    ensures { λ r. ⌜ Within 1 0 (now (io .entry)) at made r ⌝ }
+    ensures { λ r. ⌜ Within 1 0 (now (io .entry)) at made r × ((s : ℕ) → Does s ask made (now (nodes .entry)) (now (nodes .exit)) (now (io .entry)) (λ K T f c. exprW K T f at c s) r) ⌝ }
 {
     let kind = peek(io, at);
     if ask >= TOO_DEEP {
@@ -278,7 +293,7 @@ fn expr(io: &[&[u32]; 2], nodes: &mut [u32], at: u32, made: u32, ask: u32) -> St
     }
     let first = match kind {
         ID..=NULL => leaf(io, nodes, at, made, kind, ask),
-        _ => compound(io, nodes, at, made, kind, ask),
+        _ => operand(io, nodes, at, made, kind, ask),
     };
     let Step::Got(s_d, _, d) = first else {
         return first;
@@ -287,8 +302,8 @@ fn expr(io: &[&[u32]; 2], nodes: &mut [u32], at: u32, made: u32, ask: u32) -> St
 }
 
 fn leaf(io: &[&[u32]; 2], nodes: &mut [u32], at: u32, made: u32, kind: u32, ask: u32) -> Step
-    requires { ⌜ Ready 0 (now io) at made × Asks 65 ask × (at < tokens (now io)) ⌝ }
-    ensures { λ r. ⌜ Within 1 0 (now (io .entry)) at made r ⌝ }
+    requires { ⌜ Ready 0 (now io) at made × Asks 65 ask × (at < tokens (now io)) × Seen (now io) at kind × (0 < kind) × (kind ≤ 11) ⌝ }
+    ensures { λ r. ⌜ Within 1 0 (now (io .entry)) at made r × ((s : ℕ) → Does s ask made (now (nodes .entry)) (now (nodes .exit)) (now (io .entry)) (λ K T f c. leafW K T f at c s) r) ⌝ }
 {
     let code = kinds::literal_code(kind);
     if code > 0 {
@@ -305,9 +320,9 @@ fn leaf(io: &[&[u32]; 2], nodes: &mut [u32], at: u32, made: u32, kind: u32, ask:
     dotted(io, nodes, at + 1, m, next, asked(ask))
 }
 
-fn compound(io: &[&[u32]; 2], nodes: &mut [u32], at: u32, made: u32, kind: u32, ask: u32) -> Step
+fn operand(io: &[&[u32]; 2], nodes: &mut [u32], at: u32, made: u32, kind: u32, ask: u32) -> Step
     requires { ⌜ Ready 0 (now io) at made × Asks 65 ask × Seen (now io) at kind ⌝ }
-    ensures { λ r. ⌜ Within 1 0 (now (io .entry)) at made r ⌝ }
+    ensures { λ r. ⌜ Within 1 0 (now (io .entry)) at made r × ((s : ℕ) → Does s ask made (now (nodes .entry)) (now (nodes .exit)) (now (io .entry)) (λ K T f c. operandW K T f at c s) r) ⌝ }
 {
     match kind {
         LP => paren(io, nodes, at + 1, made, deeper(ask, 1)),
@@ -322,7 +337,7 @@ fn compound(io: &[&[u32]; 2], nodes: &mut [u32], at: u32, made: u32, kind: u32, 
 // 5, but 3 goes before it.
 fn too_deep(kind: u32, at: u32, ask: u32) -> Step
     requires { ⌜ at < 65536 ⌝ }
-    ensures { λ r. ⌜ Refuses at r ⌝ }
+    ensures { λ r. ⌜ Refuses at r × TooDeep kind (strengthAsked ask) at r ⌝ }
 {
     if !kinds::begins_expr(kind) {
         return wrong(kind, at);
@@ -346,7 +361,7 @@ fn ops(
     ask: u32,
 ) -> Step
     requires { ⌜ Ready 0 (now io) from start × Asks 65 ask × (base ≤ start) × (first ≤ 127) ⌝ }
-    ensures { λ r. ⌜ Within 0 0 (now (io .entry)) from start r ⌝ }
+    ensures { λ r. ⌜ Within 0 0 (now (io .entry)) from start r × ((s pre : ℕ) → start ≡ base + pre → Does s ask start (now (nodes .entry)) (now (nodes .exit)) (now (io .entry)) (λ K T f c. opsW K T f from c s first pre) r) ⌝ }
 {
     let s = asked(ask);
     let mut at = from;
@@ -364,7 +379,7 @@ fn ops(
         if left < k {
             break;
         }
-        let r = operator(io, nodes, at, made, base, kind, deeper(ask, k + 1));
+        let r = op(io, nodes, at, made, base, kind, deeper(ask, k + 1));
         let Step::Got(_, _, d) = r else {
             return r;
         };
@@ -375,7 +390,7 @@ fn ops(
     got(at, made, left as u8)
 }
 
-fn operator(
+fn op(
     io: &[&[u32]; 2],
     nodes: &mut [u32],
     at: u32,
@@ -385,7 +400,7 @@ fn operator(
     ask: u32,
 ) -> Step
     requires { ⌜ Ready 0 (now io) at made × Asks 66 ask × (base ≤ made) × Seen (now io) at kind × (0 < kind) ⌝ }
-    ensures { λ r. ⌜ Within 1 0 (now (io .entry)) at made r ⌝ }
+    ensures { λ r. ⌜ Within 1 0 (now (io .entry)) at made r × ((s pre : ℕ) → made ≡ base + pre → Does s ask made (now (nodes .entry)) (now (nodes .exit)) (now (io .entry)) (λ K T f c. opW K T f at c s pre) r) ⌝ }
 {
     if kind < NOT {
         return binary(io, nodes, at + 1, made, base, kind, ask);
@@ -426,7 +441,7 @@ fn operator(
 
 fn notnull(nodes: &mut [u32], next: u32, made: u32, base: u32, word: u32) -> Step
     requires { ⌜ (0 < next) × (next < 65536) × (made < 65536) × (base ≤ made) ⌝ }
-    ensures { λ r. ⌜ NullBefore next made word r ⌝ }
+    ensures { λ r. ⌜ NullBefore next made word r × ((pre : ℕ) → made ≡ base + pre → Laid made (now (nodes .entry)) (now (nodes .exit)) (notNullW word next (next - 1) pre) r) ⌝ }
 {
     if word != NULL {
         return wrong(word, next - 1);
@@ -445,7 +460,7 @@ fn binary(
     ask: u32,
 ) -> Step
     requires { ⌜ Ready 1 (now io) at made × Asks 66 ask × (base ≤ made) ⌝ }
-    ensures { λ r. ⌜ Within 1 1 (now (io .entry)) at made r ⌝ }
+    ensures { λ r. ⌜ Within 1 1 (now (io .entry)) at made r × ((s pre : ℕ) → made ≡ base + pre → Does s ask made (now (nodes .entry)) (now (nodes .exit)) (now (io .entry)) (λ K T f c. binaryW K T f at c s detail pre) r) ⌝ }
 {
     let r = expr(io, nodes, at, made, ask);
     let Step::Got(_, _, d) = r else {
@@ -457,7 +472,7 @@ fn binary(
 
 fn collate(io: &[&[u32]; 2], nodes: &mut [u32], at: u32, made: u32, base: u32) -> Step
     requires { ⌜ Ready 1 (now io) at made × (base ≤ made) ⌝ }
-    ensures { λ r. ⌜ Within 1 1 (now (io .entry)) at made r ⌝ }
+    ensures { λ r. ⌜ Within 1 1 (now (io .entry)) at made r × ((pre : ℕ) → made ≡ base + pre → Lays made (now (nodes .entry)) (now (nodes .exit)) (now (io .entry)) (λ K T. collateW K T at pre) r) ⌝ }
 {
     let r = name(io, nodes, at, made);
     let Step::Got(_, _, d) = r else {
@@ -477,7 +492,7 @@ fn between(
     ask: u32,
 ) -> Step
     requires { ⌜ Ready 1 (now io) at made × Asks 66 ask × (base ≤ made) ⌝ }
-    ensures { λ r. ⌜ Within 1 1 (now (io .entry)) at made r ⌝ }
+    ensures { λ r. ⌜ Within 1 1 (now (io .entry)) at made r × ((s pre : ℕ) → made ≡ base + pre → Does s ask made (now (nodes .entry)) (now (nodes .exit)) (now (io .entry)) (λ K T f c. betweenW K T f at c s not pre) r) ⌝ }
 {
     let low = expr(io, nodes, at, made, ask);
     let Step::Got(_, _, c) = low else {
@@ -494,7 +509,7 @@ fn between(
 // A word, and an expression.
 fn after(io: &[&[u32]; 2], nodes: &mut [u32], at: u32, made: u32, word: u32, ask: u32) -> Step
     requires { ⌜ Ready 0 (now io) at made × Asks 66 ask × (0 < word) ⌝ }
-    ensures { λ r. ⌜ Within 1 0 (now (io .entry)) at made r ⌝ }
+    ensures { λ r. ⌜ Within 1 0 (now (io .entry)) at made r × ((s : ℕ) → Does s ask made (now (nodes .entry)) (now (nodes .exit)) (now (io .entry)) (λ K T f c. afterW K T f at word c s) r) ⌝ }
 {
     let kind = peek(io, at);
     if kind != word {
@@ -514,7 +529,7 @@ fn inside(
     ask: u32,
 ) -> Step
     requires { ⌜ Ready 0 (now io) at made × Asks 66 ask × (base ≤ made) ⌝ }
-    ensures { λ r. ⌜ Within 1 0 (now (io .entry)) at made r ⌝ }
+    ensures { λ r. ⌜ Within 1 0 (now (io .entry)) at made r × ((s pre : ℕ) → made ≡ base + pre → Does s ask made (now (nodes .entry)) (now (nodes .exit)) (now (io .entry)) (λ K T f c. insideW K T f at c not pre) r) ⌝ }
 {
     let lp = peek(io, at);
     if lp != LP {
@@ -555,7 +570,7 @@ fn ended(
     not: u32,
 ) -> Step
     requires { ⌜ Ready 0 (now io) at made × (base ≤ made) ⌝ }
-    ensures { λ r. ⌜ Within 1 0 (now (io .entry)) at made r ⌝ }
+    ensures { λ r. ⌜ Within 1 0 (now (io .entry)) at made r × ((pre m : ℕ) (N : List ℕ) (rs : List Rec) → m ≡ base + pre → Filled N (now (nodes .entry)) m made rs → Lays m N (now (nodes .exit)) (now (io .entry)) (λ K T. endedW K T at code not pre rs) r) ⌝ }
 {
     let kind = peek(io, at);
     if kind != RP {
@@ -568,7 +583,7 @@ fn ended(
 // { expression , }: says how many.
 fn list(io: &[&[u32]; 2], nodes: &mut [u32], from: u32, start: u32, ask: u32) -> Step
     requires { ⌜ Ready 0 (now io) from start × Asks 66 ask ⌝ }
-    ensures { λ r. ⌜ Within 1 0 (now (io .entry)) from start r ⌝ }
+    ensures { λ r. ⌜ Within 1 0 (now (io .entry)) from start r × Does 1 ask start (now (nodes .entry)) (now (nodes .exit)) (now (io .entry)) (λ K T f c. listW K T f from c 0) r ⌝ }
 {
     let mut at = from;
     let mut made = start;
@@ -591,8 +606,8 @@ fn list(io: &[&[u32]; 2], nodes: &mut [u32], from: u32, start: u32, ask: u32) ->
 }
 
 fn prefix(io: &[&[u32]; 2], nodes: &mut [u32], at: u32, made: u32, kind: u32, ask: u32) -> Step
-    requires { ⌜ Ready 0 (now io) at made × Asks 65 ask × (at < tokens (now io)) ⌝ }
-    ensures { λ r. ⌜ Within 1 0 (now (io .entry)) at made r ⌝ }
+    requires { ⌜ Ready 0 (now io) at made × Asks 65 ask × (at < tokens (now io)) × Seen (now io) at kind ⌝ }
+    ensures { λ r. ⌜ Within 1 0 (now (io .entry)) at made r × ((s : ℕ) → Does s ask made (now (nodes .entry)) (now (nodes .exit)) (now (io .entry)) (λ K T f c. prefixW K T f at c s) r) ⌝ }
 {
     let p = kinds::prefix(kind);
     if asked(ask) > p {
@@ -609,7 +624,7 @@ fn prefix(io: &[&[u32]; 2], nodes: &mut [u32], at: u32, made: u32, kind: u32, as
 // A call, or up to three names; in a column, name DOT STAR.
 fn dotted(io: &[&[u32]; 2], nodes: &mut [u32], at: u32, made: u32, kind: u32, s: u32) -> Step
     requires { ⌜ Ready 1 (now io) at made × Seen (now io) at kind ⌝ }
-    ensures { λ r. ⌜ Within 0 1 (now (io .entry)) at made r ⌝ }
+    ensures { λ r. ⌜ Within 0 1 (now (io .entry)) at made r × Lays made (now (nodes .entry)) (now (nodes .exit)) (now (io .entry)) (λ K T. dottedW K T at s) r ⌝ }
 {
     if kind != DOT {
         let m = emit(nodes, made, 31, 0, 1, 2);
@@ -627,7 +642,7 @@ fn dotted(io: &[&[u32]; 2], nodes: &mut [u32], at: u32, made: u32, kind: u32, s:
 // DOT name [ DOT name ] after a name, and the record over them.
 fn dots(io: &[&[u32]; 2], nodes: &mut [u32], at: u32, made: u32) -> Step
     requires { ⌜ Ready 0 (now io) at made × (at < tokens (now io)) ⌝ }
-    ensures { λ r. ⌜ Within 1 0 (now (io .entry)) at made r ⌝ }
+    ensures { λ r. ⌜ Within 1 0 (now (io .entry)) at made r × Lays made (now (nodes .entry)) (now (nodes .exit)) (now (io .entry)) (λ K T. dotsW K T at) r ⌝ }
 {
     let r = name(io, nodes, at + 1, made);
     let Step::Got(_, _, c) = r else {
@@ -649,7 +664,7 @@ fn dots(io: &[&[u32]; 2], nodes: &mut [u32], at: u32, made: u32) -> Step
 // After LP of a call, whose name is the last record.
 fn call(io: &[&[u32]; 2], nodes: &mut [u32], at: u32, made: u32, ask: u32) -> Step
     requires { ⌜ Ready 0 (now io) at made × Asks 66 ask ⌝ }
-    ensures { λ r. ⌜ Within 1 0 (now (io .entry)) at made r ⌝ }
+    ensures { λ r. ⌜ Within 1 0 (now (io .entry)) at made r × Does 1 ask made (now (nodes .entry)) (now (nodes .exit)) (now (io .entry)) (λ K T f c. callW K T f at c) r ⌝ }
 {
     let kind = peek(io, at);
     if is_bare(kind) {
@@ -664,7 +679,9 @@ fn call(io: &[&[u32]; 2], nodes: &mut [u32], at: u32, made: u32, ask: u32) -> St
 }
 
 // No argument, or STAR.
-fn is_bare(kind: u32) -> bool {
+fn is_bare(kind: u32) -> bool
+    ensures { λ r. ⌜ r ≡ isBare kind ⌝ }
+{
     match kind {
         RP | STAR => true,
         _ => false,
@@ -673,7 +690,7 @@ fn is_bare(kind: u32) -> bool {
 
 fn bare(io: &[&[u32]; 2], nodes: &mut [u32], at: u32, made: u32, kind: u32) -> Step
     requires { ⌜ Ready 0 (now io) at made × Seen (now io) at kind ⌝ }
-    ensures { λ r. ⌜ Within 1 0 (now (io .entry)) at made r ⌝ }
+    ensures { λ r. ⌜ Within 1 0 (now (io .entry)) at made r × Lays made (now (nodes .entry)) (now (nodes .exit)) (now (io .entry)) (λ K T. choose (eqb kind STAR) (calledW K T (at + 1) 2 0 []) (calledW K T at 0 0 [])) r ⌝ }
 {
     if kind == STAR {
         return called(io, nodes, at + 1, made, made, 2, 0);
@@ -691,7 +708,7 @@ fn called(
     n: u32,
 ) -> Step
     requires { ⌜ Ready 0 (now io) at made × (base ≤ made) ⌝ }
-    ensures { λ r. ⌜ Within 1 0 (now (io .entry)) at made r ⌝ }
+    ensures { λ r. ⌜ Within 1 0 (now (io .entry)) at made r × ((N : List ℕ) (rs : List Rec) → Filled N (now (nodes .entry)) base made rs → Lays base N (now (nodes .exit)) (now (io .entry)) (λ K T. calledW K T at detail n rs) r) ⌝ }
 {
     let kind = peek(io, at);
     if kind != RP {
@@ -705,11 +722,11 @@ fn called(
 // After LP: ( query ) or ( expressions ).
 fn paren(io: &[&[u32]; 2], nodes: &mut [u32], at: u32, made: u32, ask: u32) -> Step
     requires { ⌜ Ready 4 (now io) at made × Asks 66 ask ⌝ }
-    ensures { λ r. ⌜ Within 1 4 (now (io .entry)) at made r ⌝ }
+    ensures { λ r. ⌜ Within 1 4 (now (io .entry)) at made r × Does 1 ask made (now (nodes .entry)) (now (nodes .exit)) (now (io .entry)) (λ K T f c. parenW K T f at c) r ⌝ }
 {
     let kind = peek(io, at);
     match kind {
-        SELECT | VALUES => bracketed(io, nodes, at, made, 34, ask),
+        SELECT | VALUES => sub(io, nodes, at, made, 34, ask),
         _ => {
             let l = list(io, nodes, at, made, ask);
             let Step::Got(_, n_d, d) = l else {
@@ -720,9 +737,9 @@ fn paren(io: &[&[u32]; 2], nodes: &mut [u32], at: u32, made: u32, ask: u32) -> S
     }
 }
 
-fn bracketed(io: &[&[u32]; 2], nodes: &mut [u32], at: u32, made: u32, code: u32, ask: u32) -> Step
+fn sub(io: &[&[u32]; 2], nodes: &mut [u32], at: u32, made: u32, code: u32, ask: u32) -> Step
     requires { ⌜ Ready 4 (now io) at made × Asks 66 ask ⌝ }
-    ensures { λ r. ⌜ Within 1 4 (now (io .entry)) at made r ⌝ }
+    ensures { λ r. ⌜ Within 1 4 (now (io .entry)) at made r × Does 1 ask made (now (nodes .entry)) (now (nodes .exit)) (now (io .entry)) (λ K T f c. subW K T f at c code) r ⌝ }
 {
     let q = query(io, nodes, at, made, asking(ask, 0));
     let Step::Got(_, _, d) = q else {
@@ -733,21 +750,21 @@ fn bracketed(io: &[&[u32]; 2], nodes: &mut [u32], at: u32, made: u32, code: u32,
 
 fn exists(io: &[&[u32]; 2], nodes: &mut [u32], at: u32, made: u32, ask: u32) -> Step
     requires { ⌜ Ready 0 (now io) at made × Asks 66 ask ⌝ }
-    ensures { λ r. ⌜ Within 1 0 (now (io .entry)) at made r ⌝ }
+    ensures { λ r. ⌜ Within 1 0 (now (io .entry)) at made r × Does 1 ask made (now (nodes .entry)) (now (nodes .exit)) (now (io .entry)) (λ K T f c. existsW K T f at c) r ⌝ }
 {
     let kind = peek(io, at);
     if kind != LP {
         return wrong(kind, at);
     }
-    bracketed(io, nodes, at + 1, made, 35, ask)
+    sub(io, nodes, at + 1, made, 35, ask)
 }
 
 // After CASE.
 fn case(io: &[&[u32]; 2], nodes: &mut [u32], at: u32, made: u32, ask: u32) -> Step
     requires { ⌜ Ready 2 (now io) at made × Asks 66 ask ⌝ }
-    ensures { λ r. ⌜ Within 1 2 (now (io .entry)) at made r ⌝ }
+    ensures { λ r. ⌜ Within 1 2 (now (io .entry)) at made r × Does 1 ask made (now (nodes .entry)) (now (nodes .exit)) (now (io .entry)) (λ K T f c. caseW K T f at c) r ⌝ }
 {
-    let b = case_base(io, nodes, at, made, ask);
+    let b = cased(io, nodes, at, made, ask);
     let Step::Got(_, _, c) = b else {
         return b;
     };
@@ -767,9 +784,9 @@ fn case(io: &[&[u32]; 2], nodes: &mut [u32], at: u32, made: u32, ask: u32) -> St
     got(f.at + 1, m, 12)
 }
 
-fn case_base(io: &[&[u32]; 2], nodes: &mut [u32], at: u32, made: u32, ask: u32) -> Step
+fn cased(io: &[&[u32]; 2], nodes: &mut [u32], at: u32, made: u32, ask: u32) -> Step
     requires { ⌜ Ready 1 (now io) at made × Asks 66 ask ⌝ }
-    ensures { λ r. ⌜ Within 0 1 (now (io .entry)) at made r ⌝ }
+    ensures { λ r. ⌜ Within 0 1 (now (io .entry)) at made r × Does 1 ask made (now (nodes .entry)) (now (nodes .exit)) (now (io .entry)) (λ K T f c. casedW K T f at c) r ⌝ }
 {
     let kind = peek(io, at);
     if kind == WHEN {
@@ -782,7 +799,7 @@ fn case_base(io: &[&[u32]; 2], nodes: &mut [u32], at: u32, made: u32, ask: u32) 
 // WHEN expression THEN expression, once or more: says how many expressions.
 fn whens(io: &[&[u32]; 2], nodes: &mut [u32], from: u32, start: u32, ask: u32) -> Step
     requires { ⌜ Ready 0 (now io) from start × Asks 66 ask ⌝ }
-    ensures { λ r. ⌜ Within 1 0 (now (io .entry)) from start r ⌝ }
+    ensures { λ r. ⌜ Within 1 0 (now (io .entry)) from start r × Does 1 ask start (now (nodes .entry)) (now (nodes .exit)) (now (io .entry)) (λ K T f c. whensW K T f from c 0) r ⌝ }
 {
     let mut at = from;
     let mut made = start;
@@ -810,7 +827,7 @@ fn whens(io: &[&[u32]; 2], nodes: &mut [u32], from: u32, start: u32, ask: u32) -
 // After CAST.
 fn cast(io: &[&[u32]; 2], nodes: &mut [u32], at: u32, made: u32, ask: u32) -> Step
     requires { ⌜ Ready 0 (now io) at made × Asks 66 ask ⌝ }
-    ensures { λ r. ⌜ Within 1 0 (now (io .entry)) at made r ⌝ }
+    ensures { λ r. ⌜ Within 1 0 (now (io .entry)) at made r × Does 1 ask made (now (nodes .entry)) (now (nodes .exit)) (now (io .entry)) (λ K T f c. castW K T f at c) r ⌝ }
 {
     let e = after(io, nodes, at, made, LP, ask);
     let Step::Got(_, _, c) = e else {
@@ -831,7 +848,7 @@ fn cast(io: &[&[u32]; 2], nodes: &mut [u32], at: u32, made: u32, ask: u32) -> St
 
 fn query(io: &[&[u32]; 2], nodes: &mut [u32], at: u32, made: u32, ask: u32) -> Step
     requires { ⌜ Ready 4 (now io) at made × Asks 66 ask × (strengthAsked ask ≡ 0) ⌝ }
-    ensures { λ r. ⌜ Within 1 4 (now (io .entry)) at made r ⌝ }
+    ensures { λ r. ⌜ Within 1 4 (now (io .entry)) at made r × Does 0 ask made (now (nodes .entry)) (now (nodes .exit)) (now (io .entry)) (λ K T f c. queryW K T f at c) r ⌝ }
 {
     let b = body(io, nodes, at, made, ask);
     let Step::Got(_, _, c) = b else {
@@ -847,7 +864,7 @@ fn query(io: &[&[u32]; 2], nodes: &mut [u32], at: u32, made: u32, ask: u32) -> S
 
 fn body(io: &[&[u32]; 2], nodes: &mut [u32], at: u32, made: u32, ask: u32) -> Step
     requires { ⌜ Ready 0 (now io) at made × Asks 66 ask × (strengthAsked ask ≡ 0) ⌝ }
-    ensures { λ r. ⌜ Within 1 0 (now (io .entry)) at made r × Opens ask r ⌝ }
+    ensures { λ r. ⌜ Within 1 0 (now (io .entry)) at made r × Opens ask r × Does 0 ask made (now (nodes .entry)) (now (nodes .exit)) (now (io .entry)) (λ K T f c. bodyW K T f at c) r ⌝ }
 {
     let kind = peek(io, at);
     if kind == SELECT {
@@ -860,7 +877,7 @@ fn body(io: &[&[u32]; 2], nodes: &mut [u32], at: u32, made: u32, ask: u32) -> St
         if queries(ask) >= QUERIES {
             return Step::Refused(6, at as u16);
         }
-        return values(io, nodes, at + 1, made, ask + QUERY + 1);
+        return rows(io, nodes, at + 1, made, ask + QUERY + 1);
     }
     wrong(kind, at)
 }
@@ -868,7 +885,7 @@ fn body(io: &[&[u32]; 2], nodes: &mut [u32], at: u32, made: u32, ask: u32) -> St
 // ORDER BY and LIMIT.
 fn tail(io: &[&[u32]; 2], nodes: &mut [u32], at: u32, made: u32, ask: u32) -> Step
     requires { ⌜ Ready 3 (now io) at made × Asks 66 ask ⌝ }
-    ensures { λ r. ⌜ Within 0 3 (now (io .entry)) at made r ⌝ }
+    ensures { λ r. ⌜ Within 0 3 (now (io .entry)) at made r × Does 1 ask made (now (nodes .entry)) (now (nodes .exit)) (now (io .entry)) (λ K T f c. tailW K T f at c) r ⌝ }
 {
     let kind = peek(io, at);
     match kind {
@@ -891,9 +908,9 @@ fn tail(io: &[&[u32]; 2], nodes: &mut [u32], at: u32, made: u32, ask: u32) -> St
 }
 
 // After VALUES: rows of one length.
-fn values(io: &[&[u32]; 2], nodes: &mut [u32], from: u32, base: u32, ask: u32) -> Step
+fn rows(io: &[&[u32]; 2], nodes: &mut [u32], from: u32, base: u32, ask: u32) -> Step
     requires { ⌜ Ready 1 (now io) from base × Asks 66 ask ⌝ }
-    ensures { λ r. ⌜ Within 1 1 (now (io .entry)) from base r ⌝ }
+    ensures { λ r. ⌜ Within 1 1 (now (io .entry)) from base r × Does 1 ask base (now (nodes .entry)) (now (nodes .exit)) (now (io .entry)) (λ K T f c. allRowsW K T f from c) r ⌝ }
 {
     let mut at = from;
     let mut made = base;
@@ -921,7 +938,7 @@ fn values(io: &[&[u32]; 2], nodes: &mut [u32], from: u32, base: u32, ask: u32) -
 // ( expressions ), as many as `width` unless that is 0: says how many.
 fn row(io: &[&[u32]; 2], nodes: &mut [u32], at: u32, made: u32, width: u32, ask: u32) -> Step
     requires { ⌜ Ready 0 (now io) at made × Asks 66 ask ⌝ }
-    ensures { λ r. ⌜ Within 1 0 (now (io .entry)) at made r ⌝ }
+    ensures { λ r. ⌜ Within 1 0 (now (io .entry)) at made r × Does 1 ask made (now (nodes .entry)) (now (nodes .exit)) (now (io .entry)) (λ K T f c. rowW K T f at c width) r ⌝ }
 {
     let lp = peek(io, at);
     if lp != LP {
@@ -948,7 +965,7 @@ fn row(io: &[&[u32]; 2], nodes: &mut [u32], at: u32, made: u32, width: u32, ask:
 // After SELECT.
 fn select(io: &[&[u32]; 2], nodes: &mut [u32], at: u32, made: u32, ask: u32) -> Step
     requires { ⌜ Ready 8 (now io) at made × Asks 66 ask ⌝ }
-    ensures { λ r. ⌜ Within 1 8 (now (io .entry)) at made r ⌝ }
+    ensures { λ r. ⌜ Within 1 8 (now (io .entry)) at made r × Does 1 ask made (now (nodes .entry)) (now (nodes .exit)) (now (io .entry)) (λ K T f c. selectW K T f at c) r ⌝ }
 {
     let kind = peek(io, at);
     let detail: u32 = match kind {
@@ -957,11 +974,12 @@ fn select(io: &[&[u32]; 2], nodes: &mut [u32], at: u32, made: u32, ask: u32) -> 
         _ => 0,
     };
     let word: u32 = if detail > 0 { 1 } else { 0 };
-    let l = columns(io, nodes, at + word, made, ask);
-    let Step::Got(_, _, c) = l else {
+    let l = cols(io, nodes, at + word, made, ask);
+    let Step::Got(_, n_c, c) = l else {
         return l;
     };
-    let f = clauses(io, nodes, c.at, c.made, ask);
+    let listed = emit(nodes, c.made, 4, 0, n_c as u32, c.made - made + 1);
+    let f = parts(io, nodes, c.at, listed, ask);
     let Step::Got(_, _, d) = f else {
         return f;
     };
@@ -970,9 +988,9 @@ fn select(io: &[&[u32]; 2], nodes: &mut [u32], at: u32, made: u32, ask: u32) -> 
 }
 
 // FROM, WHERE, GROUP BY, HAVING.
-fn clauses(io: &[&[u32]; 2], nodes: &mut [u32], at: u32, made: u32, ask: u32) -> Step
+fn parts(io: &[&[u32]; 2], nodes: &mut [u32], at: u32, made: u32, ask: u32) -> Step
     requires { ⌜ Ready 4 (now io) at made × Asks 66 ask ⌝ }
-    ensures { λ r. ⌜ Within 0 4 (now (io .entry)) at made r ⌝ }
+    ensures { λ r. ⌜ Within 0 4 (now (io .entry)) at made r × Does 1 ask made (now (nodes .entry)) (now (nodes .exit)) (now (io .entry)) (λ K T f c. partsW K T f at c) r ⌝ }
 {
     let kind = peek(io, at);
     match kind {
@@ -997,7 +1015,7 @@ fn clauses(io: &[&[u32]; 2], nodes: &mut [u32], at: u32, made: u32, ask: u32) ->
 // An optional clause of a word and an expression.
 fn clause(io: &[&[u32]; 2], nodes: &mut [u32], at: u32, made: u32, word: u32, ask: u32) -> Step
     requires { ⌜ Ready 1 (now io) at made × Asks 66 ask × (0 < word) ⌝ }
-    ensures { λ r. ⌜ Within 0 1 (now (io .entry)) at made r ⌝ }
+    ensures { λ r. ⌜ Within 0 1 (now (io .entry)) at made r × Does 1 ask made (now (nodes .entry)) (now (nodes .exit)) (now (io .entry)) (λ K T f c. clauseW K T f at word c) r ⌝ }
 {
     let kind = peek(io, at);
     if kind == word {
@@ -1010,7 +1028,7 @@ fn clause(io: &[&[u32]; 2], nodes: &mut [u32], at: u32, made: u32, word: u32, as
 // GROUP BY and HAVING.
 fn group(io: &[&[u32]; 2], nodes: &mut [u32], at: u32, made: u32, ask: u32) -> Step
     requires { ⌜ Ready 2 (now io) at made × Asks 66 ask ⌝ }
-    ensures { λ r. ⌜ Within 0 2 (now (io .entry)) at made r ⌝ }
+    ensures { λ r. ⌜ Within 0 2 (now (io .entry)) at made r × Does 1 ask made (now (nodes .entry)) (now (nodes .exit)) (now (io .entry)) (λ K T f c. groupW K T f at c) r ⌝ }
 {
     let kind = peek(io, at);
     match kind {
@@ -1037,15 +1055,16 @@ fn group(io: &[&[u32]; 2], nodes: &mut [u32], at: u32, made: u32, ask: u32) -> S
     }
 }
 
-fn columns(io: &[&[u32]; 2], nodes: &mut [u32], from: u32, base: u32, ask: u32) -> Step
-    requires { ⌜ Ready 3 (now io) from base × Asks 66 ask ⌝ }
-    ensures { λ r. ⌜ Within 1 3 (now (io .entry)) from base r ⌝ }
+// Says how many.
+fn cols(io: &[&[u32]; 2], nodes: &mut [u32], from: u32, base: u32, ask: u32) -> Step
+    requires { ⌜ Ready 2 (now io) from base × Asks 66 ask ⌝ }
+    ensures { λ r. ⌜ Within 1 2 (now (io .entry)) from base r × Does 1 ask base (now (nodes .entry)) (now (nodes .exit)) (now (io .entry)) (λ K T f c. colsW K T f from c 0) r ⌝ }
 {
     let mut at = from;
     let mut made = base;
     let mut n: u32 = 0;
     loop {
-        let r = column(io, nodes, at, made, ask);
+        let r = col(io, nodes, at, made, ask);
         let Step::Got(_, _, d) = r else {
             return r;
         };
@@ -1058,13 +1077,12 @@ fn columns(io: &[&[u32]; 2], nodes: &mut [u32], from: u32, base: u32, ask: u32) 
         }
         at += 1;
     }
-    let m = emit(nodes, made, 4, 0, n, made - base + 1);
-    got(at, m, 0)
+    counted(at, made, n)
 }
 
-fn column(io: &[&[u32]; 2], nodes: &mut [u32], at: u32, made: u32, ask: u32) -> Step
+fn col(io: &[&[u32]; 2], nodes: &mut [u32], at: u32, made: u32, ask: u32) -> Step
     requires { ⌜ Ready 2 (now io) at made × Asks 66 ask ⌝ }
-    ensures { λ r. ⌜ Within 1 2 (now (io .entry)) at made r ⌝ }
+    ensures { λ r. ⌜ Within 1 2 (now (io .entry)) at made r × Does 1 ask made (now (nodes .entry)) (now (nodes .exit)) (now (io .entry)) (λ K T f c. colW K T f at c) r ⌝ }
 {
     let kind = peek(io, at);
     if kind == STAR {
@@ -1089,7 +1107,7 @@ fn column(io: &[&[u32]; 2], nodes: &mut [u32], at: u32, made: u32, ask: u32) -> 
 // Says the mode: 0 none, 1 AS, 2 bare.
 fn alias(io: &[&[u32]; 2], nodes: &mut [u32], at: u32, made: u32) -> Step
     requires { ⌜ Ready 1 (now io) at made ⌝ }
-    ensures { λ r. ⌜ Within 0 1 (now (io .entry)) at made r ⌝ }
+    ensures { λ r. ⌜ Within 0 1 (now (io .entry)) at made r × Lays made (now (nodes .entry)) (now (nodes .exit)) (now (io .entry)) (λ K T. aliasW K T at) r ⌝ }
 {
     let kind = peek(io, at);
     match kind {
@@ -1103,7 +1121,7 @@ fn alias(io: &[&[u32]; 2], nodes: &mut [u32], at: u32, made: u32) -> Step
 
 fn renamed(io: &[&[u32]; 2], nodes: &mut [u32], at: u32, made: u32, kind: u32) -> Step
     requires { ⌜ Ready 0 (now io) at made × (at < tokens (now io)) ⌝ }
-    ensures { λ r. ⌜ Within 1 0 (now (io .entry)) at made r ⌝ }
+    ensures { λ r. ⌜ Within 1 0 (now (io .entry)) at made r × (Seen (now (io .entry)) at kind → Lays made (now (nodes .entry)) (now (nodes .exit)) (now (io .entry)) (λ K T. choose (eqb kind AS) (bind (nameW K T (at + 1)) (λ a s n rs. done a 1 0 rs)) (done (at + 1) 2 0 (nameRec K T at ∷ []))) r) ⌝ }
 {
     if kind == AS {
         let r = name(io, nodes, at + 1, made);
@@ -1118,7 +1136,7 @@ fn renamed(io: &[&[u32]; 2], nodes: &mut [u32], at: u32, made: u32, kind: u32) -
 
 fn from(io: &[&[u32]; 2], nodes: &mut [u32], at: u32, made: u32, kind: u32, ask: u32) -> Step
     requires { ⌜ Ready 1 (now io) at made × Asks 66 ask × Seen (now io) at kind ⌝ }
-    ensures { λ r. ⌜ Within 0 1 (now (io .entry)) at made r ⌝ }
+    ensures { λ r. ⌜ Within 0 1 (now (io .entry)) at made r × Does 1 ask made (now (nodes .entry)) (now (nodes .exit)) (now (io .entry)) (λ K T f c. fromW K T f at c) r ⌝ }
 {
     if kind != FROM {
         let m = absent(nodes, made, 1);
@@ -1139,7 +1157,7 @@ fn from(io: &[&[u32]; 2], nodes: &mut [u32], at: u32, made: u32, kind: u32, ask:
 // Says how many.
 fn joins(io: &[&[u32]; 2], nodes: &mut [u32], from: u32, start: u32, ask: u32) -> Step
     requires { ⌜ Ready 0 (now io) from start × Asks 66 ask ⌝ }
-    ensures { λ r. ⌜ Within 0 0 (now (io .entry)) from start r ⌝ }
+    ensures { λ r. ⌜ Within 0 0 (now (io .entry)) from start r × Does 1 ask start (now (nodes .entry)) (now (nodes .exit)) (now (io .entry)) (λ K T f c. joinsW K T f from c 0) r ⌝ }
 {
     let mut at = from;
     let mut made = start;
@@ -1168,7 +1186,9 @@ fn joins(io: &[&[u32]; 2], nodes: &mut [u32], from: u32, start: u32, ask: u32) -
     counted(at, made, n)
 }
 
-fn begins_join(kind: u32) -> bool {
+fn begins_join(kind: u32) -> bool
+    ensures { λ r. ⌜ r ≡ beginsJoin kind ⌝ }
+{
     match kind {
         COMMA | JOIN | JOIN_KW => true,
         _ => false,
@@ -1178,7 +1198,7 @@ fn begins_join(kind: u32) -> bool {
 // COMMA, or up to three join words and JOIN: says the join's detail.
 fn joined(io: &[&[u32]; 2], from: u32, first: u32) -> Step
     requires { ⌜ Ready 0 (now io) from 0 × Seen (now io) from first ⌝ }
-    ensures { λ r. ⌜ Within 1 0 (now (io .entry)) from 0 r ⌝ }
+    ensures { λ r. ⌜ Within 1 0 (now (io .entry)) from 0 r × Lays 0 [] [] (now (io .entry)) (λ K T. joinedW K T from) r ⌝ }
 {
     if first == COMMA {
         return got(from + 1, 0, 0);
@@ -1210,7 +1230,7 @@ fn joined(io: &[&[u32]; 2], from: u32, first: u32) -> Step
 // ON or USING, or nothing.
 fn on(io: &[&[u32]; 2], nodes: &mut [u32], at: u32, made: u32, ask: u32) -> Step
     requires { ⌜ Ready 1 (now io) at made × Asks 66 ask ⌝ }
-    ensures { λ r. ⌜ Within 0 1 (now (io .entry)) at made r ⌝ }
+    ensures { λ r. ⌜ Within 0 1 (now (io .entry)) at made r × Does 1 ask made (now (nodes .entry)) (now (nodes .exit)) (now (io .entry)) (λ K T f c. onW K T f at c) r ⌝ }
 {
     let kind = peek(io, at);
     match kind {
@@ -1233,7 +1253,7 @@ fn on(io: &[&[u32]; 2], nodes: &mut [u32], at: u32, made: u32, ask: u32) -> Step
 // After USING.
 fn using(io: &[&[u32]; 2], nodes: &mut [u32], from: u32, base: u32) -> Step
     requires { ⌜ Ready 0 (now io) from base ⌝ }
-    ensures { λ r. ⌜ Within 1 0 (now (io .entry)) from base r ⌝ }
+    ensures { λ r. ⌜ Within 1 0 (now (io .entry)) from base r × Later (λ f. Lays base (now (nodes .entry)) (now (nodes .exit)) (now (io .entry)) (λ K T. usingW K T f from) r) ⌝ }
 {
     let lp = peek(io, from);
     if lp != LP {
@@ -1261,7 +1281,7 @@ fn using(io: &[&[u32]; 2], nodes: &mut [u32], from: u32, base: u32) -> Step
 
 fn source(io: &[&[u32]; 2], nodes: &mut [u32], at: u32, made: u32, ask: u32) -> Step
     requires { ⌜ Ready 4 (now io) at made × Asks 66 ask ⌝ }
-    ensures { λ r. ⌜ Within 1 4 (now (io .entry)) at made r ⌝ }
+    ensures { λ r. ⌜ Within 1 4 (now (io .entry)) at made r × Does 1 ask made (now (nodes .entry)) (now (nodes .exit)) (now (io .entry)) (λ K T f c. sourceW K T f at c) r ⌝ }
 {
     let kind = peek(io, at);
     if kind != LP {
@@ -1277,7 +1297,7 @@ fn source(io: &[&[u32]; 2], nodes: &mut [u32], at: u32, made: u32, ask: u32) -> 
 // RP and an optional alias after a query in FROM.
 fn lent(io: &[&[u32]; 2], nodes: &mut [u32], at: u32, made: u32, base: u32) -> Step
     requires { ⌜ Ready 0 (now io) at made × (base ≤ made) ⌝ }
-    ensures { λ r. ⌜ Within 1 0 (now (io .entry)) at made r ⌝ }
+    ensures { λ r. ⌜ Within 1 0 (now (io .entry)) at made r × ((N : List ℕ) (rs : List Rec) → Filled N (now (nodes .entry)) base made rs → Lays base N (now (nodes .exit)) (now (io .entry)) (λ K T. lentW K T at rs) r) ⌝ }
 {
     let rp = peek(io, at);
     if rp != RP {
@@ -1293,7 +1313,7 @@ fn lent(io: &[&[u32]; 2], nodes: &mut [u32], at: u32, made: u32, base: u32) -> S
 
 fn table(io: &[&[u32]; 2], nodes: &mut [u32], at: u32, made: u32) -> Step
     requires { ⌜ Ready 4 (now io) at made ⌝ }
-    ensures { λ r. ⌜ Within 1 4 (now (io .entry)) at made r ⌝ }
+    ensures { λ r. ⌜ Within 1 4 (now (io .entry)) at made r × Lays made (now (nodes .entry)) (now (nodes .exit)) (now (io .entry)) (λ K T. tableW K T at) r ⌝ }
 {
     let t = qualified(io, nodes, at, made);
     let Step::Got(_, _, c) = t else {
@@ -1321,7 +1341,7 @@ fn table(io: &[&[u32]; 2], nodes: &mut [u32], at: u32, made: u32) -> Step
 // [ schema DOT ] name
 fn qualified(io: &[&[u32]; 2], nodes: &mut [u32], at: u32, made: u32) -> Step
     requires { ⌜ Ready 1 (now io) at made ⌝ }
-    ensures { λ r. ⌜ Within 1 1 (now (io .entry)) at made r ⌝ }
+    ensures { λ r. ⌜ Within 1 1 (now (io .entry)) at made r × Lays made (now (nodes .entry)) (now (nodes .exit)) (now (io .entry)) (λ K T. qualifiedW K T at) r ⌝ }
 {
     if peek(io, at + 1) == DOT {
         let r = name(io, nodes, at, made);
@@ -1337,7 +1357,7 @@ fn qualified(io: &[&[u32]; 2], nodes: &mut [u32], at: u32, made: u32) -> Step
 // INDEXED BY name, NOT INDEXED or nothing: says 1, 2 or 0.
 fn index(io: &[&[u32]; 2], nodes: &mut [u32], at: u32, made: u32) -> Step
     requires { ⌜ Ready 1 (now io) at made ⌝ }
-    ensures { λ r. ⌜ Within 0 1 (now (io .entry)) at made r ⌝ }
+    ensures { λ r. ⌜ Within 0 1 (now (io .entry)) at made r × Lays made (now (nodes .entry)) (now (nodes .exit)) (now (io .entry)) (λ K T. indexW K T at) r ⌝ }
 {
     let kind = peek(io, at);
     match kind {
@@ -1370,7 +1390,7 @@ fn index(io: &[&[u32]; 2], nodes: &mut [u32], at: u32, made: u32) -> Step
 // After ORDER.
 fn order(io: &[&[u32]; 2], nodes: &mut [u32], from: u32, base: u32, ask: u32) -> Step
     requires { ⌜ Ready 0 (now io) from base × Asks 66 ask ⌝ }
-    ensures { λ r. ⌜ Within 1 0 (now (io .entry)) from base r ⌝ }
+    ensures { λ r. ⌜ Within 1 0 (now (io .entry)) from base r × Does 1 ask base (now (nodes .entry)) (now (nodes .exit)) (now (io .entry)) (λ K T f c. orderW K T f from c) r ⌝ }
 {
     let by = peek(io, from);
     if by != BY {
@@ -1404,7 +1424,7 @@ fn order(io: &[&[u32]; 2], nodes: &mut [u32], from: u32, base: u32, ask: u32) ->
 // [ ASC or DESC ] [ NULLS FIRST or LAST ]: says the term's detail.
 fn way(io: &[&[u32]; 2], at: u32) -> Step
     requires { ⌜ Ready 0 (now io) at 0 ⌝ }
-    ensures { λ r. ⌜ Within 0 0 (now (io .entry)) at 0 r ⌝ }
+    ensures { λ r. ⌜ Within 0 0 (now (io .entry)) at 0 r × Lays 0 [] [] (now (io .entry)) (λ K T. wayW K T at) r ⌝ }
 {
     let kind = peek(io, at);
     match kind {
@@ -1416,7 +1436,7 @@ fn way(io: &[&[u32]; 2], at: u32) -> Step
 
 fn nulls(io: &[&[u32]; 2], at: u32, detail: u8) -> Step
     requires { ⌜ Ready 0 (now io) at 0 × (detail ≤ 2) ⌝ }
-    ensures { λ r. ⌜ Within 0 0 (now (io .entry)) at 0 r ⌝ }
+    ensures { λ r. ⌜ Within 0 0 (now (io .entry)) at 0 r × Lays 0 [] [] (now (io .entry)) (λ K T. nullsW K T at detail) r ⌝ }
 {
     let kind = peek(io, at);
     if kind != NULLS {
@@ -1432,7 +1452,7 @@ fn nulls(io: &[&[u32]; 2], at: u32, detail: u8) -> Step
 
 fn limit(io: &[&[u32]; 2], nodes: &mut [u32], at: u32, made: u32, ask: u32) -> Step
     requires { ⌜ Ready 2 (now io) at made × Asks 66 ask ⌝ }
-    ensures { λ r. ⌜ Within 0 2 (now (io .entry)) at made r ⌝ }
+    ensures { λ r. ⌜ Within 0 2 (now (io .entry)) at made r × Does 1 ask made (now (nodes .entry)) (now (nodes .exit)) (now (io .entry)) (λ K T f c. limitW K T f at c) r ⌝ }
 {
     let kind = peek(io, at);
     if kind != LIMIT {
@@ -1464,6 +1484,7 @@ fn limit(io: &[&[u32]; 2], nodes: &mut [u32], at: u32, made: u32, ask: u32) -> S
 // Brings the records from `mid` on before those from `base`, where the table has room for them all.
 fn rotate(nodes: &mut [u32], base: u32, mid: u32, end: u32)
     requires { ⌜ (base ≤ mid) × (mid ≤ end) × (end < 65536) ⌝ }
+    ensures { λ r. ⌜ ((N : List ℕ) (rs qs : List Rec) → mid ≡ base + length rs → Filled N (now (nodes .entry)) base end (rs ++ qs) → Filled N (now (nodes .exit)) base end (qs ++ rs)) ⌝ }
 {
     if end as usize * 4 <= nodes.len() {
         reverse(nodes, base, mid);
@@ -1475,6 +1496,7 @@ fn rotate(nodes: &mut [u32], base: u32, mid: u32, end: u32)
 // The records from `from` up to `to`, last first.
 fn reverse(nodes: &mut [u32], from: u32, to: u32)
     requires { ⌜ (from < 65536) × (to < 65536) × (to * 4 ≤ length (now nodes)) ⌝ }
+    ensures { λ r. ⌜ ((E : List ℕ) → Turned (now (nodes .entry)) (from * 4) (to * 4) E → now (nodes .exit) ≡ E) ⌝ }
 {
     let mut a = from as usize * 4;
     let mut b = to as usize * 4;
@@ -1490,6 +1512,7 @@ fn reverse(nodes: &mut [u32], from: u32, to: u32)
 
 fn swap(nodes: &mut [u32], a: usize, b: usize)
     requires { ⌜ (a < length (now nodes)) × (b < length (now nodes)) ⌝ }
+    ensures { λ r. ⌜ now (nodes .exit) ≡ swappedAt (now (nodes .entry)) a b ⌝ }
 {
     let x = nodes[a];
     nodes[a] = nodes[b];
@@ -1500,7 +1523,7 @@ fn swap(nodes: &mut [u32], a: usize, b: usize)
 
 // 1 where the token is unfit, else 0; with no branch, so that the loop below goes through it four at a time.
 fn odd(kind: u32, text: u32) -> u32
-    ensures { λ r. ⌜ (r ≡ 0 → kind ≡ 40 → text ≤ 3) ⌝ }
+    ensures { λ r. ⌜ (r ≡ 0 → kind ≡ 40 → text ≤ 3) × (fits kind text ≡ true → r ≡ 0) × (r ≡ 0 → fits kind text ≡ true) ⌝ }
 {
     let none = (kind == 0) as u32 | (kind > kinds::KINDS) as u32;
     let join = (kind == JOIN_KW) as u32 & ((text == 0) as u32 | (text > 7) as u32);
@@ -1511,7 +1534,7 @@ fn odd(kind: u32, text: u32) -> u32
 // Whether each token is fit.
 fn all_fit(kinds: &[u32], texts: &[u32]) -> bool
     requires { ⌜ length (now texts) ≡ length (now kinds) ⌝ }
-    ensures { λ r. ⌜ (r ≡ true → greatestLike (now (kinds .entry)) (now (texts .entry)) ≤ 3) ⌝ }
+    ensures { λ r. ⌜ (r ≡ true → greatestLike (now (kinds .entry)) (now (texts .entry)) ≤ 3) × (r ≡ true → FitLists (now (kinds .entry)) (now (texts .entry))) × (FitLists (now (kinds .entry)) (now (texts .entry)) → r ≡ true) ⌝ }
 {
     let n = kinds.len();
     let mut bad: u32 = 0;
@@ -1526,6 +1549,7 @@ fn all_fit(kinds: &[u32], texts: &[u32]) -> bool
 // The first token that is unfit, or the count of tokens.
 fn unfit(kinds: &[u32], texts: &[u32]) -> usize
     requires { ⌜ length (now texts) ≡ length (now kinds) ⌝ }
+    ensures { λ r. ⌜ ((FitLists (now (kinds .entry)) (now (texts .entry)) → ⊥) → UnfitAt (now (kinds .entry)) (now (texts .entry)) r) ⌝ }
 {
     let mut i = 0;
     while i < kinds.len() {
@@ -1540,7 +1564,7 @@ fn unfit(kinds: &[u32], texts: &[u32]) -> usize
 // A query, then the end of the list or one SEMI and the end.
 fn command(io: &[&[u32]; 2], nodes: &mut [u32]) -> Step
     requires { ⌜ Ready 4 (now io) 0 0 ⌝ }
-    ensures { λ r. ⌜ Within 1 4 (now (io .entry)) 0 0 r ⌝ }
+    ensures { λ r. ⌜ Within 1 4 (now (io .entry)) 0 0 r × Later (λ f. Lays 0 (now (nodes .entry)) (now (nodes .exit)) (now (io .entry)) (λ K T. commandW K T f) r) ⌝ }
 {
     let q = query(io, nodes, 0, 0, OUTER);
     let Step::Got(_, _, c) = q else {
@@ -1562,7 +1586,7 @@ fn command(io: &[&[u32]; 2], nodes: &mut [u32]) -> Step
 
 // Reads the list into records, or refuses it; what is refused leaves the table as it was.
 pub fn read<'a>(kinds: &'a [u32], texts: &'a [u32], nodes: &mut [u32]) -> Answer
-    ensures { λ r. ⌜ Keeps (now (nodes .entry)) (now (nodes .exit)) r ⌝ }
+    ensures { λ r. ⌜ Reads (now (kinds .entry)) (now (texts .entry)) (now (nodes .entry)) (number r) (place r) (now (nodes .exit)) ⌝ }
 {
     if kinds.len() != texts.len() {
         return Answer::Refused(1, 0);

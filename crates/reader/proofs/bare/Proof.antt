@@ -3,6 +3,11 @@ use Rattle.reader.proofs.Steps.{further}
 use native.Mathlib.Omega.{arith}
 use borrow.Author.Needs.{needs}
 use Rattle.reader.proofs.bare.Statement.{statement}
+use Rattle.reader.proofs.Laying.{took, left}
+use Rattle.descent.proofs.Filling.{nothing}
+use Rattle.theory.proofs.Cases.{eqb-true}
+use borrow.Author.Tests.{ne-eqb}
+use mathlib.Core.List.{[]}
 use Rattle.reader.proofs.bare.Tie as tie
 use Rattle.reader.proofs.bare.Reads as reads
 use Rattle.reader.proofs.bare.Lts as lts
@@ -22,7 +27,7 @@ same-length c = search needs
 
 -- src/lib.rt:679:9
 returns : tie.Need-returns
-returns c = further (c .before .before .called .ensures) (omega arith)
+returns c = (further (c .before .before .called .ensures .0) (omega arith), took _ _ _ (eqb-true _ _ (c .before .before .before .before .if1 .taken)) (c .before .before .called .ensures .1 _ [] nothing))
 
 -- src/lib.rt:681:5
 called-requires-2 : tie.Need-called-requires-2
@@ -34,7 +39,7 @@ same-length-2 c = search needs
 
 -- src/lib.rt:674:1
 returns-2 : tie.Need-returns-2
-returns-2 c = further (c .before .before .called2 .ensures) (omega arith)
+returns-2 c = (further (c .before .before .called2 .ensures .0) (omega arith), left _ _ _ (ne-eqb _ _ (c .before .before .before .before .if1 .left)) (c .before .before .called2 .ensures .1 _ [] nothing))
 
 pub bare-spec : {M : Type 1} → statement M
 bare-spec =

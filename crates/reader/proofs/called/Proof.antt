@@ -3,6 +3,9 @@ use Rattle.reader.proofs.Steps.{ended, refused}
 use native.Mathlib.Omega.{arith}
 use borrow.Author.Needs.{needs}
 use Rattle.reader.proofs.called.Statement.{statement}
+use Rattle.reader.proofs.Laying.{laid, took, left, misfit, paired, is, isn't}
+use Rattle.descent.proofs.Walk.{calledW}
+use mathlib.Core.Path.{refl}
 use Rattle.reader.proofs.called.Tie as tie
 use Rattle.reader.proofs.called.Reads as reads
 use Rattle.reader.proofs.called.Lts as lts
@@ -21,7 +24,8 @@ wrong-requires c κs = search needs
 
 -- src/lib.rt:698:9
 returns : tie.Need-returns
-returns c = refused (c .wrong .ensures) (omega arith)
+unfolding calledW
+returns c = (refused (c .wrong .ensures .0) (omega arith), λ N rs F. left _ _ _ (isn't (c .before .before .peek .ensures) (c .before .if1 .taken)) (misfit (c .before .before .peek .ensures) (c .wrong .ensures .1)))
 
 -- src/lib.rt:700:40
 sub-emit : tie.Need-sub-emit
@@ -61,7 +65,8 @@ same-length c = search needs
 
 -- src/lib.rt:684:1
 returns-2 : tie.Need-returns-2
-returns-2 c = ended (c .got .ensures) (omega (arith, c .before .before .before .before .before .before .before .before .before .before .before .before .pre, c .before .before .before .emit2 .ensures, c .before .before .before .before .before .before .before .emit .ensures, c .before .before .before .before .before .before .before .before .before .if1 .left, c .before .before .before .before .before .before .before .before .before .before .peek .ensures))
+unfolding calledW
+returns-2 c = (ended (c .got .ensures) (omega (arith, c .before .before .before .before .before .before .before .before .before .before .before .before .pre, c .before .before .before .emit2 .ensures .0, c .before .before .before .before .before .before .before .emit .ensures .0, c .before .before .before .before .before .before .before .before .before .if1 .left, c .before .before .before .before .before .before .before .before .before .before .peek .ensures)), λ N rs F. took _ _ _ (is (c .before .before .before .before .before .before .before .before .before .before .peek .ensures) (c .before .before .before .before .before .before .before .before .before .if1 .left)) (laid (c .got .ensures) refl (paired F (c .before .before .before .before .before .before .before .emit .ensures .1) (c .before .before .before .emit2 .ensures .1))))
 
 pub called-spec : {M : Type 1} → statement M
 called-spec =

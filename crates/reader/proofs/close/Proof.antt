@@ -3,6 +3,9 @@ use Rattle.reader.proofs.Steps.{ended, refused}
 use native.Mathlib.Omega.{arith}
 use borrow.Author.Needs.{needs}
 use Rattle.reader.proofs.close.Statement.{statement}
+use Rattle.reader.proofs.Laying.{laid, took, left, misfit, closed, is, isn't}
+use Rattle.descent.proofs.Walk.{closeW}
+use mathlib.Core.Path.{refl}
 use Rattle.reader.proofs.close.Tie as tie
 use Rattle.reader.proofs.close.Reads as reads
 use Rattle.reader.proofs.close.Lts as lts
@@ -21,7 +24,8 @@ wrong-requires c κs = search needs
 
 -- src/lib.rt:253:9
 returns : tie.Need-returns
-returns c = refused (c .wrong .ensures) (omega arith)
+unfolding closeW
+returns c = (refused (c .wrong .ensures .0) (omega arith), λ pre b. left _ _ _ (isn't (c .before .before .peek .ensures) (c .before .if1 .taken)) (misfit (c .before .before .peek .ensures) (c .wrong .ensures .1)))
 
 -- src/lib.rt:255:43
 sub-emit : tie.Need-sub-emit
@@ -49,7 +53,8 @@ same-length c = search needs
 
 -- src/lib.rt:239:1
 returns-2 : tie.Need-returns-2
-returns-2 c = ended (c .got .ensures) (omega arith)
+unfolding closeW
+returns-2 c = (ended (c .got .ensures) (omega arith), λ pre b. took _ _ _ (is (c .before .before .before .before .before .before .peek .ensures) (c .before .before .before .before .before .if1 .left)) (laid (c .got .ensures) refl (closed _ pre b (c .before .before .before .emit .ensures .1))))
 
 pub close-spec : {M : Type 1} → statement M
 close-spec =

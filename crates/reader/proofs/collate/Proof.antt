@@ -3,6 +3,9 @@ use Rattle.reader.proofs.Steps.{ended, got-in, one-on, passed-on}
 use native.Mathlib.Omega.{arith}
 use borrow.Author.Needs.{needs}
 use Rattle.reader.proofs.collate.Statement.{statement}
+use Rattle.reader.proofs.Laying.{laid, goes, halts, capped}
+use Rattle.descent.proofs.Walk.{collateW}
+use mathlib.Core.Path.{refl}
 use Rattle.reader.proofs.collate.Tie as tie
 use Rattle.reader.proofs.collate.Reads as reads
 use Rattle.reader.proofs.collate.Lts as lts
@@ -28,7 +31,8 @@ same-length c = search needs
 
 -- src/lib.rt:464:9
 returns : tie.Need-returns
-returns c = passed-on (c .before .before .before .before .name .ensures .0) (c .enum-told .given .1)
+unfolding collateW
+returns c = (passed-on (c .before .before .before .before .name .ensures .0) (c .enum-told .given .1), λ pre b. halts _ _ (c .before .before .before .before .name .ensures .2) (c .enum-told .given .1))
 
 -- src/lib.rt:466:43
 sub-emit : tie.Need-sub-emit
@@ -52,7 +56,8 @@ same-length-2 c = search needs
 
 -- src/lib.rt:458:1
 returns-2 : tie.Need-returns-2
-returns-2 c = ended (c .got .ensures) (omega (arith, got-in (c .before .before .before .before .before .before .before .before .before .before .before .name .ensures .0) (c .before .before .before .before .before .before .before .r .given .1), one-on (c .before .before .before .before .before .before .before .before .before .before .before .name .ensures .1) (c .before .before .before .before .before .before .before .r .given .1), c .before .before .before .before .before .before .before .before .before .before .before .before .before .before .pre, c .before .before .before .emit .ensures))
+unfolding collateW
+returns-2 c = (ended (c .got .ensures) (omega (arith, got-in (c .before .before .before .before .before .before .before .before .before .before .before .name .ensures .0) (c .before .before .before .before .before .before .before .r .given .1), one-on (c .before .before .before .before .before .before .before .before .before .before .before .name .ensures .1) (c .before .before .before .before .before .before .before .r .given .1), c .before .before .before .before .before .before .before .before .before .before .before .before .before .before .pre, c .before .before .before .emit .ensures .0)), λ pre b. goes _ _ (c .before .before .before .before .before .before .before .before .before .before .before .name .ensures .2) (c .before .before .before .before .before .before .before .r .given .1) (λ rs F. laid (c .got .ensures) refl (capped _ pre b F (c .before .before .before .emit .ensures .1))))
 
 pub collate-spec : {M : Type 1} → statement M
 collate-spec =

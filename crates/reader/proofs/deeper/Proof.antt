@@ -3,6 +3,7 @@ use Rattle.reader.specs.Bounds.{queriesOf}
 use native.Mathlib.Omega.{arith}
 use borrow.Author.Needs.{needs}
 use Rattle.reader.proofs.deeper.Statement.{statement}
+use Rattle.reader.proofs.Laying.{one-deeper}
 use Rattle.reader.proofs.deeper.Tie as tie
 use Rattle.reader.proofs.deeper.Reads as reads
 use Rattle.reader.proofs.deeper.Lts as lts
@@ -19,7 +20,7 @@ add-result c = search needs
 -- src/lib.rt:110:1
 returns : tie.Need-returns
 unfolding queriesOf
-returns c = omega arith
+returns c = (omega arith, record { packs = λ a s₀ p. one-deeper (c .asking .ensures .3 .packs a s₀ p) })
 
 pub deeper-spec : {M : Type 1} → statement M
 deeper-spec = tie.close (tie.spec asking-requires add-result returns)

@@ -3,6 +3,10 @@ use Rattle.reader.proofs.Steps.{ended, got-in, one-on, passed-on}
 use native.Mathlib.Omega.{arith}
 use borrow.Author.Needs.{needs}
 use Rattle.reader.proofs.dots.Statement.{statement}
+use Rattle.reader.proofs.Laying.{laid, took, left, goes, halts, is, isn't}
+use Rattle.descent.proofs.Filling.{_then_}
+use Rattle.descent.proofs.Walk.{dotsW}
+use mathlib.Core.Path.{refl}
 use Rattle.reader.proofs.dots.Tie as tie
 use Rattle.reader.proofs.dots.Reads as reads
 use Rattle.reader.proofs.dots.Lts as lts
@@ -33,7 +37,8 @@ same-length c = search needs
 
 -- src/lib.rt:634:9
 returns : tie.Need-returns
-returns c = passed-on (c .before .before .before .before .name .ensures .0) (c .enum-told .given .1)
+unfolding dotsW
+returns c = (passed-on (c .before .before .before .before .name .ensures .0) (c .enum-told .given .1), halts _ _ (c .before .before .before .before .name .ensures .2) (c .enum-told .given .1))
 
 -- src/lib.rt:636:9
 peek-requires : tie.Need-peek-requires
@@ -53,7 +58,8 @@ same-length-2 c = search needs
 
 -- src/lib.rt:639:9
 returns-2 : tie.Need-returns-2
-returns-2 c = ended (c .got .ensures) (omega (arith, got-in (c .before .before .before .before .before .before .before .before .before .before .before .before .name .ensures .0) (c .before .before .before .before .before .before .before .before .r .given .1), one-on (c .before .before .before .before .before .before .before .before .before .before .before .before .name .ensures .1) (c .before .before .before .before .before .before .before .before .r .given .1), c .before .before .before .before .before .before .before .before .before .before .before .before .before .before .before .pre, c .before .before .before .emit .ensures, c .before .before .before .before .before .if1 .taken, c .before .before .before .before .before .before .peek .ensures))
+unfolding dotsW
+returns-2 c = (ended (c .got .ensures) (omega (arith, got-in (c .before .before .before .before .before .before .before .before .before .before .before .before .name .ensures .0) (c .before .before .before .before .before .before .before .before .r .given .1), one-on (c .before .before .before .before .before .before .before .before .before .before .before .before .name .ensures .1) (c .before .before .before .before .before .before .before .before .r .given .1), c .before .before .before .before .before .before .before .before .before .before .before .before .before .before .before .pre, c .before .before .before .emit .ensures .0, c .before .before .before .before .before .if1 .taken, c .before .before .before .before .before .before .peek .ensures)), goes _ _ (c .before .before .before .before .before .before .before .before .before .before .before .before .name .ensures .2) (c .before .before .before .before .before .before .before .before .r .given .1) (λ rs F. left _ _ _ (isn't (c .before .before .before .before .before .before .peek .ensures) (c .before .before .before .before .before .if1 .taken)) (laid (c .got .ensures) refl (F then c .before .before .before .emit .ensures .1))))
 
 -- src/lib.rt:641:29
 add-name-2 : tie.Need-add-name-2
@@ -77,7 +83,8 @@ same-length-3 c = search needs
 
 -- src/lib.rt:643:9
 returns-3 : tie.Need-returns-3
-returns-3 c = passed-on (c .before .before .before .before .name2 .ensures .0) (c .enum-told2 .given .1)
+unfolding dotsW
+returns-3 c = (passed-on (c .before .before .before .before .name2 .ensures .0) (c .enum-told2 .given .1), goes _ _ (c .before .before .before .before .before .before .before .before .before .before .before .before .before .before .name .ensures .2) (c .before .before .before .before .before .before .before .before .before .before .r .given .1) (λ rs F. took _ _ _ (is (c .before .before .before .before .before .before .before .before .peek .ensures) (c .before .before .before .before .before .before .before .if1 .left)) (halts _ _ (c .before .before .before .before .name2 .ensures .2) (c .enum-told2 .given .1))))
 
 -- src/lib.rt:645:9
 emit-requires-2 : tie.Need-emit-requires-2
@@ -93,7 +100,8 @@ same-length-4 c = search needs
 
 -- src/lib.rt:628:1
 returns-4 : tie.Need-returns-4
-returns-4 c = ended (c .got2 .ensures) (omega (arith, got-in (c .before .before .before .before .before .before .before .before .before .before .name2 .ensures .0) (c .before .before .before .before .before .before .q .given .1), one-on (c .before .before .before .before .before .before .before .before .before .before .name2 .ensures .1) (c .before .before .before .before .before .before .q .given .1), got-in (c .before .before .before .before .before .before .before .before .before .before .before .before .before .before .before .before .before .before .before .before .name .ensures .0) (c .before .before .before .before .before .before .before .before .before .before .before .before .before .before .before .before .r .given .1), one-on (c .before .before .before .before .before .before .before .before .before .before .before .before .before .before .before .before .before .before .before .before .name .ensures .1) (c .before .before .before .before .before .before .before .before .before .before .before .before .before .before .before .before .r .given .1), c .before .before .before .before .before .before .before .before .before .before .before .before .before .before .before .before .before .before .before .before .before .before .before .pre, c .before .before .before .emit2 .ensures, c .before .before .before .before .before .before .before .before .before .before .before .before .before .if1 .left, c .before .before .before .before .before .before .before .before .before .before .before .before .before .before .peek .ensures))
+unfolding dotsW
+returns-4 c = (ended (c .got2 .ensures) (omega (arith, got-in (c .before .before .before .before .before .before .before .before .before .before .name2 .ensures .0) (c .before .before .before .before .before .before .q .given .1), one-on (c .before .before .before .before .before .before .before .before .before .before .name2 .ensures .1) (c .before .before .before .before .before .before .q .given .1), got-in (c .before .before .before .before .before .before .before .before .before .before .before .before .before .before .before .before .before .before .before .before .name .ensures .0) (c .before .before .before .before .before .before .before .before .before .before .before .before .before .before .before .before .r .given .1), one-on (c .before .before .before .before .before .before .before .before .before .before .before .before .before .before .before .before .before .before .before .before .name .ensures .1) (c .before .before .before .before .before .before .before .before .before .before .before .before .before .before .before .before .r .given .1), c .before .before .before .before .before .before .before .before .before .before .before .before .before .before .before .before .before .before .before .before .before .before .before .pre, c .before .before .before .emit2 .ensures .0, c .before .before .before .before .before .before .before .before .before .before .before .before .before .if1 .left, c .before .before .before .before .before .before .before .before .before .before .before .before .before .before .peek .ensures)), goes _ _ (c .before .before .before .before .before .before .before .before .before .before .before .before .before .before .before .before .before .before .before .before .name .ensures .2) (c .before .before .before .before .before .before .before .before .before .before .before .before .before .before .before .before .r .given .1) (λ rs F. took _ _ _ (is (c .before .before .before .before .before .before .before .before .before .before .before .before .before .before .peek .ensures) (c .before .before .before .before .before .before .before .before .before .before .before .before .before .if1 .left)) (goes _ _ (c .before .before .before .before .before .before .before .before .before .before .name2 .ensures .2) (c .before .before .before .before .before .before .q .given .1) (λ qs G. laid (c .got2 .ensures) refl (F then G then c .before .before .before .emit2 .ensures .1)))))
 
 pub dots-spec : {M : Type 1} → statement M
 dots-spec =

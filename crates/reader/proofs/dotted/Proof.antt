@@ -3,6 +3,12 @@ use Rattle.reader.proofs.Steps.{ended, further}
 use native.Mathlib.Omega.{arith}
 use borrow.Author.Needs.{needs}
 use Rattle.reader.proofs.dotted.Statement.{statement}
+use Rattle.reader.proofs.Laying.{laid, took, left, is, isn't, no-left, no-right}
+use Rattle.descent.proofs.Walk.{dottedW}
+use Rattle.theory.proofs.Cases.{both-i, eqb-true}
+use borrow.Author.Tests.{ne-eqb}
+use mathlib.Core.Path.{refl}
+use mathlib.Core.Logic.{⊎-elim}
 use Rattle.reader.proofs.dotted.Tie as tie
 use Rattle.reader.proofs.dotted.Reads as reads
 use Rattle.reader.proofs.dotted.Lts as lts
@@ -25,7 +31,8 @@ same-length c = search needs
 
 -- src/lib.rt:616:9
 returns : tie.Need-returns
-returns c = ended (c .got .ensures) (omega arith)
+unfolding dottedW
+returns c = (ended (c .got .ensures) (omega arith), left _ _ _ (isn't (c .before .before .before .before .before .before .before .pre .1) (c .before .before .before .before .before .if1 .taken)) (laid (c .got .ensures) refl (c .before .before .before .emit .ensures .1)))
 
 -- src/lib.rt:619:21
 add-peek : tie.Need-add-peek
@@ -53,7 +60,8 @@ same-length-2 c = search needs
 
 -- src/lib.rt:621:13
 returns-2 : tie.Need-returns-2
-returns-2 c = ended (c .got2 .ensures) (omega (arith, c .before .before .before .before .before .before .before .before .before .before .pre, c .before .before .before .emit2 .ensures, c .before .before .before .before .before .if3 .taken, c .before .before .before .before .before .before .peek .ensures, c .before .before .before .before .before .before .before .if2 .taken, c .before .before .before .before .before .before .before .before .if1 .left))
+unfolding dottedW
+returns-2 c = (ended (c .got2 .ensures) (omega (arith, c .before .before .before .before .before .before .before .before .before .before .pre, c .before .before .before .emit2 .ensures .0, c .before .before .before .before .before .if3 .taken, c .before .before .before .before .before .before .peek .ensures, c .before .before .before .before .before .before .before .if2 .taken, c .before .before .before .before .before .before .before .before .if1 .left)), took _ _ _ (is (c .before .before .before .before .before .before .before .before .before .before .pre .1) (c .before .before .before .before .before .before .before .before .if1 .left)) (took _ _ _ (both-i _ _ (eqb-true _ _ (c .before .before .before .before .before .before .before .if2 .taken)) (is (c .before .before .before .before .before .before .peek .ensures) (c .before .before .before .before .before .if3 .taken))) (laid (c .got2 .ensures) refl (c .before .before .before .emit2 .ensures .1))))
 
 -- src/lib.rt:624:5
 dots-requires : tie.Need-dots-requires
@@ -65,7 +73,8 @@ same-length-3 c = search needs
 
 -- src/lib.rt:610:1
 returns-3 : tie.Need-returns-3
-returns-3 c = further (c .before .before .dots .ensures) (omega arith)
+unfolding dottedW
+returns-3 c = (further (c .before .before .dots .ensures .0) (omega arith), took _ _ _ (is (c .before .before .before .before .before .before .before .pre .1) (c .before .before .before .before .before .if1 .left)) (left _ _ _ (⊎-elim (λ w. no-right _ _ (isn't (w .1 .ensures) (w .2 .left))) (λ w. no-left _ _ (ne-eqb _ _ (w .left))) (c .before .before .before .before .if2 .came)) (c .before .before .dots .ensures .1)))
 
 pub dotted-spec : {M : Type 1} → statement M
 dotted-spec =

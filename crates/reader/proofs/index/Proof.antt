@@ -3,6 +3,10 @@ use Rattle.reader.proofs.Steps.{ended, got-in, one-on, passed-on, refus
 use native.Mathlib.Omega.{arith}
 use borrow.Author.Needs.{needs}
 use Rattle.reader.proofs.index.Statement.{statement}
+use Rattle.reader.proofs.Laying.{laid, took, left, goes, halts, misfit, is, isn't, differs}
+use Rattle.descent.proofs.Walk.{indexW}
+use Rattle.reader.specs.Laying.{absences}
+use mathlib.Core.Path.{refl}
 use Rattle.reader.proofs.index.Tie as tie
 use Rattle.reader.proofs.index.Reads as reads
 use Rattle.reader.proofs.index.Lts as lts
@@ -34,7 +38,8 @@ wrong-requires c κs = search needs
 
 -- src/lib.rt:1347:17
 returns : tie.Need-returns
-returns c = refused (c .wrong .ensures) (omega arith)
+unfolding indexW absences
+returns c = (refused (c .wrong .ensures .0) (omega arith), took _ _ _ (is (c .before .before .before .before .peek .ensures) (c .before .before .before .match .keys1)) (left _ _ _ (isn't (c .before .before .peek2 .ensures) (c .before .if1 .taken)) (misfit (c .before .before .peek2 .ensures) (c .wrong .ensures .1))))
 
 -- src/lib.rt:1349:37
 add-name : tie.Need-add-name
@@ -58,7 +63,8 @@ same-length c = search needs
 
 -- src/lib.rt:1351:17
 returns-2 : tie.Need-returns-2
-returns-2 c = passed-on (c .before .before .before .before .name .ensures .0) (c .enum-told .given .1)
+unfolding indexW absences
+returns-2 c = (passed-on (c .before .before .before .before .name .ensures .0) (c .enum-told .given .1), took _ _ _ (is (c .before .before .before .before .before .before .before .before .before .peek .ensures) (c .before .before .before .before .before .before .before .before .match .keys1)) (took _ _ _ (is (c .before .before .before .before .before .before .before .peek2 .ensures) (c .before .before .before .before .before .before .if1 .left)) (halts _ _ (c .before .before .before .before .name .ensures .2) (c .enum-told .given .1))))
 
 -- src/lib.rt:1353:13
 got-requires : tie.Need-got-requires
@@ -82,7 +88,8 @@ wrong-requires-2 c κs = search needs
 
 -- src/lib.rt:1358:17
 returns-3 : tie.Need-returns-3
-returns-3 c = refused (c .wrong2 .ensures) (omega arith)
+unfolding indexW absences
+returns-3 c = (refused (c .wrong2 .ensures .0) (omega arith), left _ _ _ (differs _ (c .before .before .before .before .peek .ensures) (c .before .before .before .match .keys2) refl) (took _ _ _ (is (c .before .before .before .before .peek .ensures) (c .before .before .before .match .keys2)) (left _ _ _ (isn't (c .before .before .peek3 .ensures) (c .before .if2 .taken)) (misfit (c .before .before .peek3 .ensures) (c .wrong2 .ensures .1)))))
 
 -- src/lib.rt:1360:17
 absent-requires : tie.Need-absent-requires
@@ -110,7 +117,8 @@ same-length-2 c = search needs
 
 -- src/lib.rt:1338:1
 returns-4 : tie.Need-returns-4
-returns-4 c = ended (c .got .ensures) (omega (arith, got-in (c .before .before .before .before .before .before .name .ensures .0) (c .before .before .r .given .1), one-on (c .before .before .before .before .before .before .name .ensures .1) (c .before .before .r .given .1), c .before .before .before .before .before .before .before .before .before .before .before .before .before .pre, c .before .before .before .before .before .before .before .before .if1 .left, c .before .before .before .before .before .before .before .before .before .peek2 .ensures, c .before .before .before .before .before .before .before .before .before .before .before .peek .ensures))
+unfolding indexW absences
+returns-4 c = (ended (c .got .ensures) (omega (arith, got-in (c .before .before .before .before .before .before .name .ensures .0) (c .before .before .r .given .1), one-on (c .before .before .before .before .before .before .name .ensures .1) (c .before .before .r .given .1), c .before .before .before .before .before .before .before .before .before .before .before .before .before .pre, c .before .before .before .before .before .before .before .before .if1 .left, c .before .before .before .before .before .before .before .before .before .peek2 .ensures, c .before .before .before .before .before .before .before .before .before .before .before .peek .ensures)), took _ _ _ (is (c .before .before .before .before .before .before .before .before .before .before .before .peek .ensures) (c .before .before .before .before .before .before .before .before .before .before .match .keys1)) (took _ _ _ (is (c .before .before .before .before .before .before .before .before .before .peek2 .ensures) (c .before .before .before .before .before .before .before .before .if1 .left)) (goes _ _ (c .before .before .before .before .before .before .name .ensures .2) (c .before .before .r .given .1) (λ rs F. laid (c .got .ensures) refl (F)))))
 
 -- src/lib.rt:1338:1
 same-length-3 : tie.Need-same-length-3
@@ -118,7 +126,8 @@ same-length-3 c = search needs
 
 -- src/lib.rt:1338:1
 returns-5 : tie.Need-returns-5
-returns-5 c = ended (c .got2 .ensures) (omega (arith, c .before .before .before .before .before .before .before .before .before .before .pre, c .before .before .before .absent .ensures, c .before .before .before .before .before .if2 .left, c .before .before .before .before .before .before .peek3 .ensures, c .before .before .before .before .before .before .before .before .peek .ensures))
+unfolding indexW absences
+returns-5 c = (ended (c .got2 .ensures) (omega (arith, c .before .before .before .before .before .before .before .before .before .before .pre, c .before .before .before .absent .ensures .0, c .before .before .before .before .before .if2 .left, c .before .before .before .before .before .before .peek3 .ensures, c .before .before .before .before .before .before .before .before .peek .ensures)), left _ _ _ (differs _ (c .before .before .before .before .before .before .before .before .peek .ensures) (c .before .before .before .before .before .before .before .match .keys2) refl) (took _ _ _ (is (c .before .before .before .before .before .before .before .before .peek .ensures) (c .before .before .before .before .before .before .before .match .keys2)) (took _ _ _ (is (c .before .before .before .before .before .before .peek3 .ensures) (c .before .before .before .before .before .if2 .left)) (laid (c .got2 .ensures) refl (c .before .before .before .absent .ensures .1)))))
 
 -- src/lib.rt:1338:1
 same-length-4 : tie.Need-same-length-4
@@ -126,7 +135,8 @@ same-length-4 c = search needs
 
 -- src/lib.rt:1338:1
 returns-6 : tie.Need-returns-6
-returns-6 c = ended (c .got3 .ensures) (omega arith)
+unfolding indexW absences
+returns-6 c = (ended (c .got3 .ensures) (omega arith), left _ _ _ (isn't (c .before .before .before .before .before .before .peek .ensures) (c .before .before .before .before .before .match .rest .0 .1)) (left _ _ _ (isn't (c .before .before .before .before .before .before .peek .ensures) (c .before .before .before .before .before .match .rest .1)) (laid (c .got3 .ensures) refl (c .before .before .before .absent2 .ensures .1))))
 
 pub index-spec : {M : Type 1} → statement M
 index-spec =

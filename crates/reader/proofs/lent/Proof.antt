@@ -3,6 +3,10 @@ use Rattle.reader.proofs.Steps.{ended, got-in, passed-on, refused}
 use native.Mathlib.Omega.{arith}
 use borrow.Author.Needs.{needs}
 use Rattle.reader.proofs.lent.Statement.{statement}
+use Rattle.reader.proofs.Laying.{laid, took, left, goes, halts, misfit, topped, is, isn't}
+use Rattle.descent.proofs.Filling.{_then_}
+use Rattle.descent.proofs.Walk.{lentW}
+use mathlib.Core.Path.{refl}
 use Rattle.reader.proofs.lent.Tie as tie
 use Rattle.reader.proofs.lent.Reads as reads
 use Rattle.reader.proofs.lent.Lts as lts
@@ -22,7 +26,8 @@ wrong-requires c κs = search needs
 
 -- src/lib.rt:1284:9
 returns : tie.Need-returns
-returns c = refused (c .wrong .ensures) (omega arith)
+unfolding lentW
+returns c = (refused (c .wrong .ensures .0) (omega arith), λ N rs F. left _ _ _ (isn't (c .before .before .peek .ensures) (c .before .if1 .taken)) (misfit (c .before .before .peek .ensures) (c .wrong .ensures .1)))
 
 -- src/lib.rt:1286:30
 add-alias : tie.Need-add-alias
@@ -46,7 +51,8 @@ same-length c = search needs
 
 -- src/lib.rt:1288:9
 returns-2 : tie.Need-returns-2
-returns-2 c = passed-on (c .before .before .before .before .alias .ensures) (c .enum-told .given .1)
+unfolding lentW
+returns-2 c = (passed-on (c .before .before .before .before .alias .ensures .0) (c .enum-told .given .1), λ N rs F. took _ _ _ (is (c .before .before .before .before .before .before .before .peek .ensures) (c .before .before .before .before .before .before .if1 .left)) (halts _ _ (c .before .before .before .before .alias .ensures .1) (c .enum-told .given .1)))
 
 -- src/lib.rt:1290:37
 cast-emit : tie.Need-cast-emit
@@ -54,15 +60,15 @@ cast-emit c = search needs
 
 -- src/lib.rt:1290:52
 sub-emit : tie.Need-sub-emit
-sub-emit c = omega (arith, got-in (c .before .before .before .before .before .before .before .alias .ensures) (c .before .before .before .a .given .1), c .before .before .before .before .before .before .before .before .before .before .before .before .pre, c .before .before .before .before .before .before .before .before .before .if1 .left, c .before .before .before .before .before .before .before .before .before .before .peek .ensures)
+sub-emit c = omega (arith, got-in (c .before .before .before .before .before .before .before .alias .ensures .0) (c .before .before .before .a .given .1), c .before .before .before .before .before .before .before .before .before .before .before .before .pre, c .before .before .before .before .before .before .before .before .before .if1 .left, c .before .before .before .before .before .before .before .before .before .before .peek .ensures)
 
 -- src/lib.rt:1290:52
 add-emit : tie.Need-add-emit
-add-emit c = omega (arith, got-in (c .before .before .before .before .before .before .before .alias .ensures) (c .before .before .before .a .given .1), c .before .before .before .before .before .before .before .before .before .before .before .before .pre, c .before .before .before .before .before .before .before .before .before .if1 .left, c .before .before .before .before .before .before .before .before .before .before .peek .ensures)
+add-emit c = omega (arith, got-in (c .before .before .before .before .before .before .before .alias .ensures .0) (c .before .before .before .a .given .1), c .before .before .before .before .before .before .before .before .before .before .before .before .pre, c .before .before .before .before .before .before .before .before .before .if1 .left, c .before .before .before .before .before .before .before .before .before .before .peek .ensures)
 
 -- src/lib.rt:1290:9
 emit-requires : tie.Need-emit-requires
-emit-requires c κs = omega (arith, got-in (c .before .before .before .before .before .before .before .alias .ensures) (c .before .before .before .a .given .1), c .before .before .before .before .before .before .before .before .before .before .before .before .pre, c .before .before .before .before .before .before .before .before .before .if1 .left, c .before .before .before .before .before .before .before .before .before .before .peek .ensures)
+emit-requires c κs = omega (arith, got-in (c .before .before .before .before .before .before .before .alias .ensures .0) (c .before .before .before .a .given .1), c .before .before .before .before .before .before .before .before .before .before .before .before .pre, c .before .before .before .before .before .before .before .before .before .if1 .left, c .before .before .before .before .before .before .before .before .before .before .peek .ensures)
 
 -- src/lib.rt:1291:5
 got-requires : tie.Need-got-requires
@@ -74,7 +80,8 @@ same-length-2 c = search needs
 
 -- src/lib.rt:1278:1
 returns-3 : tie.Need-returns-3
-returns-3 c = ended (c .got .ensures) (omega (arith, got-in (c .before .before .before .before .before .before .before .before .before .before .before .alias .ensures) (c .before .before .before .before .before .before .before .a .given .1), c .before .before .before .before .before .before .before .before .before .before .before .before .before .before .before .before .pre, c .before .before .before .emit .ensures, c .before .before .before .before .before .before .before .before .before .before .before .before .before .if1 .left, c .before .before .before .before .before .before .before .before .before .before .before .before .before .before .peek .ensures))
+unfolding lentW
+returns-3 c = (ended (c .got .ensures) (omega (arith, got-in (c .before .before .before .before .before .before .before .before .before .before .before .alias .ensures .0) (c .before .before .before .before .before .before .before .a .given .1), c .before .before .before .before .before .before .before .before .before .before .before .before .before .before .before .before .pre, c .before .before .before .emit .ensures .0, c .before .before .before .before .before .before .before .before .before .before .before .before .before .if1 .left, c .before .before .before .before .before .before .before .before .before .before .before .before .before .before .peek .ensures)), λ N rs F. took _ _ _ (is (c .before .before .before .before .before .before .before .before .before .before .before .before .before .before .peek .ensures) (c .before .before .before .before .before .before .before .before .before .before .before .before .before .if1 .left)) (goes _ _ (c .before .before .before .before .before .before .before .before .before .before .before .alias .ensures .1) (c .before .before .before .before .before .before .before .a .given .1) (λ qs G. laid (c .got .ensures) refl (topped (F then G) (c .before .before .before .emit .ensures .1)))))
 
 pub lent-spec : {M : Type 1} → statement M
 lent-spec =

@@ -1,15 +1,19 @@
 -- Made by `proofkit expand` from Proof.tmpl beside it: edit that file.
-use Prim.Native.Nat.{_-_, _<_, _≤_}
+use Prim.Native.Nat.{_-_, _<_, _≤_, _+_}
 use lib.ListN.{length, length-set}
-use mathlib.Core.Path.{_≡_, refl}
+use mathlib.Core.Path.{_≡_, refl, ap}
 use native.Mathlib.Omega.{arith}
 use Rattle.reader.proofs.missing.Statement.{statement}
+use Rattle.reader.proofs.Laying.{left, filled-as, absent-more, absent-all, absent-cut}
+use Rattle.descent.proofs.Filling.{nothing}
+use Rattle.descent.proofs.Fill.{fill, Filled}
+use Rattle.reader.specs.Laying.{absences}
 use Rattle.reader.proofs.missing.Tie as tie
 use Rattle.reader.proofs.missing.Reads as reads
 use Rattle.reader.proofs.missing.Lts as lts
 
 abbrev Inv-loop : tie.InvT-loop
-Inv-loop nodes₀ made n end i₀ nodes i = (i ≤ end) × (end < 65552) × (length nodes ≡ length nodes₀)
+Inv-loop nodes₀ made n end i₀ nodes i = ((i ≤ end) × (end < 65552) × (length nodes ≡ length nodes₀)) × Filled nodes₀ nodes made i (absences (i - made)) × (made ≤ i) × (end ≡ made + n)
 
 abbrev μ-loop : tie.MeasureT-loop
 μ-loop nodes₀ made n end i₀ nodes i = end - i
@@ -20,7 +24,8 @@ add-end c = omega arith
 
 -- src/lib.rt:204:5
 loop-holds : tie.Need-loop-holds Inv-loop μ-loop
-loop-holds c = omega arith
+unfolding absences fill
+loop-holds c = (omega arith, filled-as (ap absences (let e : 0 ≡ c .args .made - (c .args .made) = omega arith in e)) nothing, omega arith, refl)
 
 -- src/lib.rt:205:20
 cast-base : tie.Need-cast-base Inv-loop μ-loop
@@ -88,23 +93,28 @@ loop-less c = omega arith
 
 -- src/lib.rt:204:5
 loop-again : tie.Need-loop-again Inv-loop μ-loop
-loop-again c = simp length-set (omega arith)
+unfolding absences fill
+loop-again c = (simp length-set (omega arith), filled-as (ap absences (let e : (c .before .before .loop .i) - (c .before .before .before .args .made) + 1 ≡ c .before .before .loop .i + 1 - (c .before .before .before .args .made) = omega arith in e)) (absent-more (c .before .before .loop .i - (c .before .before .before .args .made)) (c .before .before .loop .inv .1) (record { counted = omega arith; stand = λ z. refl })), omega arith, c .before .before .loop .inv .3)
 
 -- src/lib.rt:198:1
 same-length : tie.Need-same-length Inv-loop μ-loop
-same-length c = c .before .loop .inv .2
+unfolding absences fill
+same-length c = c .before .loop .inv .0 .2
 
 -- src/lib.rt:198:1
 returns : tie.Need-returns Inv-loop μ-loop
-returns c = refl
+unfolding absences fill
+returns c = (refl, absent-all _ (c .before .loop .inv .1) (omega (arith, c .before .loop .inv .0, c .before .loop .inv .3, c .loop-test .left)))
 
 -- src/lib.rt:198:1
 same-length-2 : tie.Need-same-length-2 Inv-loop μ-loop
-same-length-2 c = c .before .before .loop .inv .2
+unfolding absences fill
+same-length-2 c = c .before .before .loop .inv .0 .2
 
 -- src/lib.rt:198:1
 returns-2 : tie.Need-returns-2 Inv-loop μ-loop
-returns-2 c = refl
+unfolding absences fill
+returns-2 c = (refl, absent-cut _ _ (λ z. omega (arith, z, c .before .before .loop .inv .0, c .before .before .loop .inv .3, c .if1 .taken, c .before .loop-test .taken)))
 
 pub missing-spec : {M : Type 1} → statement M
 missing-spec =

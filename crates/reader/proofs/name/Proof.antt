@@ -2,11 +2,14 @@
 use Prim.Native.Nat.{_<_}
 use Rattle.reader.proofs.Steps.{ended, one-on-got, one-on-refused, refused}
 use Rattle.reader.proofs.Tables.{name-is}
-use borrow.Author.Tests.{not-false}
+use borrow.Author.Tests.{not-false, not-true}
 use mathlib.Core.Path.{_∙_, refl, sym}
 use native.Mathlib.Omega.{arith}
 use borrow.Author.Needs.{needs}
 use Rattle.reader.proofs.name.Statement.{statement}
+use Rattle.reader.proofs.Laying.{laid, took, left, misfit, is, by-kind}
+use Rattle.descent.proofs.Walk.{nameW}
+use Rattle.kinds.specs.Classes.{isName}
 use Rattle.reader.proofs.name.Tie as tie
 use Rattle.reader.proofs.name.Reads as reads
 use Rattle.reader.proofs.name.Lts as lts
@@ -30,7 +33,8 @@ wrong-requires c κs = search needs
 
 -- src/lib.rt:232:9
 returns : tie.Need-returns
-returns c = (refused (c .wrong .ensures) (omega arith), one-on-refused (c .wrong .ensures))
+unfolding nameW
+returns c = (refused (c .wrong .ensures .0) (omega arith), one-on-refused (c .wrong .ensures .0), left _ _ _ (by-kind isName (c .before .before .before .peek .ensures) (sym (c .before .before .is-name .ensures) ∙ not-true _ (c .before .if1 .taken))) (misfit (c .before .before .before .peek .ensures) (c .wrong .ensures .1)))
 
 -- src/lib.rt:234:9
 named-requires : tie.Need-named-requires
@@ -50,7 +54,8 @@ same-length c = search needs
 
 -- src/lib.rt:226:1
 returns-2 : tie.Need-returns-2
-returns-2 c = let k : 0 < (c .before .before .before .before .before .before .before .peek .result) = name-is _ (sym (c .before .before .before .before .before .before .is-name .ensures) ∙ not-false _ (c .before .before .before .before .before .if1 .left)) in (ended (c .got .ensures) (omega arith), one-on-got (c .got .ensures) refl)
+unfolding nameW
+returns-2 c = let k : 0 < (c .before .before .before .before .before .before .before .peek .result) = name-is _ (sym (c .before .before .before .before .before .before .is-name .ensures) ∙ not-false _ (c .before .before .before .before .before .if1 .left)) in (ended (c .got .ensures) (omega arith), one-on-got (c .got .ensures) refl, took _ _ _ (by-kind isName (c .before .before .before .before .before .before .before .peek .ensures) (sym (c .before .before .before .before .before .before .is-name .ensures) ∙ not-false _ (c .before .before .before .before .before .if1 .left))) (laid (c .got .ensures) refl (c .before .before .before .named .ensures .1 (c .before .before .before .before .before .before .before .peek .ensures .is))))
 
 pub name-spec : {M : Type 1} → statement M
 name-spec =

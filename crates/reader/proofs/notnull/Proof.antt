@@ -4,6 +4,9 @@ use mathlib.Core.Path.{refl}
 use native.Mathlib.Omega.{arith}
 use borrow.Author.Needs.{needs}
 use Rattle.reader.proofs.notnull.Statement.{statement}
+use Rattle.reader.proofs.Laying.{laid, halted, took, left, closed}
+use Rattle.theory.proofs.Cases.{eqb-true}
+use borrow.Author.Tests.{ne-eqb}
 use Rattle.reader.proofs.notnull.Tie as tie
 use Rattle.reader.proofs.notnull.Reads as reads
 use Rattle.reader.proofs.notnull.Lts as lts
@@ -21,7 +24,7 @@ wrong-requires c κs = search needs
 
 -- src/lib.rt:432:9
 returns : tie.Need-returns
-returns c = null-refused (c .wrong .ensures) refl
+returns c = (null-refused (c .wrong .ensures .0) refl, λ pre b. left _ _ _ (ne-eqb _ _ (c .before .if1 .taken)) (halted (c .wrong .ensures .1) refl))
 
 -- src/lib.rt:434:47
 sub-emit : tie.Need-sub-emit
@@ -45,7 +48,7 @@ same-length c = search needs
 
 -- src/lib.rt:427:1
 returns-2 : tie.Need-returns-2
-returns-2 c = null-got (c .got .ensures) (omega arith)
+returns-2 c = (null-got (c .got .ensures) (omega arith), λ pre b. took _ _ _ (eqb-true _ _ (c .before .before .before .before .before .if1 .left)) (laid (c .got .ensures) refl (closed _ pre b (c .before .before .before .emit .ensures .1))))
 
 pub notnull-spec : {M : Type 1} → statement M
 notnull-spec =

@@ -3,6 +3,10 @@ use Rattle.reader.proofs.Steps.{ended, refused}
 use native.Mathlib.Omega.{arith}
 use borrow.Author.Needs.{needs}
 use Rattle.reader.proofs.nulls.Statement.{statement}
+use Rattle.reader.proofs.Laying.{laid, took, left, misfit, is, isn't, differs}
+use Rattle.descent.proofs.Filling.{nothing}
+use Rattle.descent.proofs.Walk.{nullsW}
+use mathlib.Core.Path.{refl}
 use Rattle.reader.proofs.nulls.Tie as tie
 use Rattle.reader.proofs.nulls.Reads as reads
 use Rattle.reader.proofs.nulls.Lts as lts
@@ -20,7 +24,8 @@ got-requires c κs = search needs
 
 -- src/lib.rt:1423:9
 returns : tie.Need-returns
-returns c = ended (c .got .ensures) (omega arith)
+unfolding nullsW
+returns c = (ended (c .got .ensures) (omega arith), left _ _ _ (isn't (c .before .before .peek .ensures) (c .before .if1 .taken)) (laid (c .got .ensures) refl (nothing)))
 
 -- src/lib.rt:1425:25
 add-peek : tie.Need-add-peek
@@ -64,15 +69,18 @@ wrong-requires c κs = search needs
 
 -- src/lib.rt:1417:1
 returns-2 : tie.Need-returns-2
-returns-2 c = ended (c .got2 .ensures) (omega arith)
+unfolding nullsW
+returns-2 c = (ended (c .got2 .ensures) (omega arith), took _ _ _ (is (c .before .before .before .before .peek .ensures) (c .before .before .before .if1 .left)) (took _ _ _ (is (c .before .before .peek2 .ensures) (c .before .match .keys1)) (laid (c .got2 .ensures) refl (nothing))))
 
 -- src/lib.rt:1417:1
 returns-3 : tie.Need-returns-3
-returns-3 c = ended (c .got3 .ensures) (omega arith)
+unfolding nullsW
+returns-3 c = (ended (c .got3 .ensures) (omega arith), took _ _ _ (is (c .before .before .before .before .peek .ensures) (c .before .before .before .if1 .left)) (left _ _ _ (differs _ (c .before .before .peek2 .ensures) (c .before .match .keys2) refl) (took _ _ _ (is (c .before .before .peek2 .ensures) (c .before .match .keys2)) (laid (c .got3 .ensures) refl (nothing)))))
 
 -- src/lib.rt:1417:1
 returns-4 : tie.Need-returns-4
-returns-4 c = refused (c .wrong .ensures) (omega arith)
+unfolding nullsW
+returns-4 c = (refused (c .wrong .ensures .0) (omega arith), took _ _ _ (is (c .before .before .before .before .peek .ensures) (c .before .before .before .if1 .left)) (left _ _ _ (isn't (c .before .before .peek2 .ensures) (c .before .match .rest .0 .1)) (left _ _ _ (isn't (c .before .before .peek2 .ensures) (c .before .match .rest .1)) (misfit (c .before .before .peek2 .ensures) (c .wrong .ensures .1)))))
 
 pub nulls-spec : {M : Type 1} → statement M
 nulls-spec =

@@ -1,5 +1,6 @@
 -- Made by `proofkit expand` from Proof.tmpl beside it: edit that file.
 use Rattle.reader.proofs.TwoLists.{like-fit}
+use Rattle.reader.proofs.Fitness.{even-fit, fit-even}
 use lib.Bits.{bitAnd, bitOr}
 use lib.Dec.{eqb, ltb}
 use mir.Val.{boolByte}
@@ -43,7 +44,11 @@ cast-like-3 c = search needs
 
 -- src/lib.rt:1502:1
 returns : tie.Need-returns
-returns c = like-fit (bitOr (bitOr (boolByte (eqb (c .args .kind) 0)) (boolByte (ltb 71 (c .args .kind)))) (bitAnd (boolByte (eqb (c .args .kind) 5)) (bitOr (boolByte (eqb (c .args .text) 0)) (boolByte (ltb 7 (c .args .text)))))) (c .args .kind) (c .args .text) (eqb (c .args .text) 0)
+returns c = (
+  like-fit (bitOr (bitOr (boolByte (eqb (c .args .kind) 0)) (boolByte (ltb 71 (c .args .kind)))) (bitAnd (boolByte (eqb (c .args .kind) 5)) (bitOr (boolByte (eqb (c .args .text) 0)) (boolByte (ltb 7 (c .args .text)))))) (c .args .kind) (c .args .text) (eqb (c .args .text) 0),
+  fit-even (c .args .kind) (c .args .text),
+  even-fit (c .args .kind) (c .args .text),
+)
 
 pub odd-spec : {M : Type 1} → statement M
 odd-spec =

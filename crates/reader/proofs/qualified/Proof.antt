@@ -3,6 +3,9 @@ use Rattle.reader.proofs.Steps.{further, got-in, one-on, passed-on}
 use native.Mathlib.Omega.{arith}
 use borrow.Author.Needs.{needs}
 use Rattle.reader.proofs.qualified.Statement.{statement}
+use Rattle.reader.proofs.Laying.{took, left, goes, halts, behind, is, isn't}
+use Rattle.descent.proofs.Walk.{qualifiedW}
+use Rattle.reader.specs.Laying.{absences}
 use Rattle.reader.proofs.qualified.Tie as tie
 use Rattle.reader.proofs.qualified.Reads as reads
 use Rattle.reader.proofs.qualified.Lts as lts
@@ -36,7 +39,8 @@ same-length c = search needs
 
 -- src/lib.rt:1329:13
 returns : tie.Need-returns
-returns c = passed-on (c .before .before .before .before .name .ensures .0) (c .enum-told .given .1)
+unfolding qualifiedW absences
+returns c = (passed-on (c .before .before .before .before .name .ensures .0) (c .enum-told .given .1), took _ _ _ (is (c .before .before .before .before .before .before .before .peek .ensures) (c .before .before .before .before .before .before .if1 .taken)) (halts _ _ (c .before .before .before .before .name .ensures .2) (c .enum-told .given .1)))
 
 -- src/lib.rt:1331:32
 add-name : tie.Need-add-name
@@ -52,7 +56,8 @@ same-length-2 c = search needs
 
 -- src/lib.rt:1331:9
 returns-2 : tie.Need-returns-2
-returns-2 c = further (c .before .before .name2 .ensures .0) (omega (arith, got-in (c .before .before .before .before .before .before .before .before .before .before .name .ensures .0) (c .before .before .before .before .before .before .r .given .1), one-on (c .before .before .before .before .before .before .before .before .before .before .name .ensures .1) (c .before .before .before .before .before .before .r .given .1), c .before .before .before .before .before .before .before .before .before .before .before .before .before .before .before .pre, c .before .before .before .before .before .before .before .before .before .before .before .before .if1 .taken, c .before .before .before .before .before .before .before .before .before .before .before .before .before .peek .ensures))
+unfolding qualifiedW absences
+returns-2 c = (further (c .before .before .name2 .ensures .0) (omega (arith, got-in (c .before .before .before .before .before .before .before .before .before .before .name .ensures .0) (c .before .before .before .before .before .before .r .given .1), one-on (c .before .before .before .before .before .before .before .before .before .before .name .ensures .1) (c .before .before .before .before .before .before .r .given .1), c .before .before .before .before .before .before .before .before .before .before .before .before .before .before .before .pre, c .before .before .before .before .before .before .before .before .before .before .before .before .if1 .taken, c .before .before .before .before .before .before .before .before .before .before .before .before .before .peek .ensures)), took _ _ _ (is (c .before .before .before .before .before .before .before .before .before .before .before .before .before .peek .ensures) (c .before .before .before .before .before .before .before .before .before .before .before .before .if1 .taken)) (goes _ _ (c .before .before .before .before .before .before .before .before .before .before .name .ensures .2) (c .before .before .before .before .before .before .r .given .1) (λ rs F. behind _ _ F (c .before .before .name2 .ensures .2))))
 
 -- src/lib.rt:1333:9
 absent-requires : tie.Need-absent-requires
@@ -68,7 +73,8 @@ same-length-3 c = search needs
 
 -- src/lib.rt:1322:1
 returns-3 : tie.Need-returns-3
-returns-3 c = further (c .before .before .name3 .ensures .0) (omega (arith, c .before .before .before .before .before .before .before .before .before .before .before .pre, c .before .before .before .before .before .before .absent .ensures, c .before .before .before .before .before .before .before .before .if1 .left, c .before .before .before .before .before .before .before .before .before .peek .ensures))
+unfolding qualifiedW absences
+returns-3 c = (further (c .before .before .name3 .ensures .0) (omega (arith, c .before .before .before .before .before .before .before .before .before .before .before .pre, c .before .before .before .before .before .before .absent .ensures .0, c .before .before .before .before .before .before .before .before .if1 .left, c .before .before .before .before .before .before .before .before .before .peek .ensures)), left _ _ _ (isn't (c .before .before .before .before .before .before .before .before .before .peek .ensures) (c .before .before .before .before .before .before .before .before .if1 .left)) (behind _ _ (c .before .before .before .before .before .before .absent .ensures .1) (c .before .before .name3 .ensures .2)))
 
 pub qualified-spec : {M : Type 1} → statement M
 qualified-spec =

@@ -3,6 +3,10 @@ use Rattle.reader.proofs.Steps.{ended, got-in, one-on, passed-on}
 use native.Mathlib.Omega.{arith}
 use borrow.Author.Needs.{needs}
 use Rattle.reader.proofs.renamed.Statement.{statement}
+use Rattle.reader.proofs.Laying.{laid, took, left, goes, halts, is}
+use Rattle.theory.proofs.Cases.{eqb-true}
+use borrow.Author.Tests.{ne-eqb}
+use mathlib.Core.Path.{refl}
 use Rattle.reader.proofs.renamed.Tie as tie
 use Rattle.reader.proofs.renamed.Reads as reads
 use Rattle.reader.proofs.renamed.Lts as lts
@@ -32,7 +36,7 @@ same-length c = search needs
 
 -- src/lib.rt:1111:13
 returns : tie.Need-returns
-returns c = passed-on (c .before .before .before .before .name .ensures .0) (c .enum-told .given .1)
+returns c = (passed-on (c .before .before .before .before .name .ensures .0) (c .enum-told .given .1), λ z. took _ _ _ (eqb-true _ _ (c .before .before .before .before .before .before .if1 .taken)) (halts _ _ (c .before .before .before .before .name .ensures .2) (c .enum-told .given .1)))
 
 -- src/lib.rt:1113:9
 got-requires : tie.Need-got-requires
@@ -44,7 +48,7 @@ same-length-2 c = search needs
 
 -- src/lib.rt:1113:9
 returns-2 : tie.Need-returns-2
-returns-2 c = ended (c .got .ensures) (omega (arith, got-in (c .before .before .before .before .before .before .name .ensures .0) (c .before .before .r .given .1), one-on (c .before .before .before .before .before .before .name .ensures .1) (c .before .before .r .given .1), c .before .before .before .before .before .before .before .before .before .before .pre, c .before .before .before .before .before .before .before .before .if1 .taken))
+returns-2 c = (ended (c .got .ensures) (omega (arith, got-in (c .before .before .before .before .before .before .name .ensures .0) (c .before .before .r .given .1), one-on (c .before .before .before .before .before .before .name .ensures .1) (c .before .before .r .given .1), c .before .before .before .before .before .before .before .before .before .before .pre, c .before .before .before .before .before .before .before .before .if1 .taken)), λ z. took _ _ _ (eqb-true _ _ (c .before .before .before .before .before .before .before .before .if1 .taken)) (goes _ _ (c .before .before .before .before .before .before .name .ensures .2) (c .before .before .r .given .1) (λ rs F. laid (c .got .ensures) refl (F))))
 
 -- src/lib.rt:1115:9
 named-requires : tie.Need-named-requires
@@ -64,7 +68,7 @@ same-length-3 c = search needs
 
 -- src/lib.rt:1104:1
 returns-3 : tie.Need-returns-3
-returns-3 c = ended (c .got2 .ensures) (omega arith)
+returns-3 c = (ended (c .got2 .ensures) (omega arith), λ z. left _ _ _ (ne-eqb _ _ (c .before .before .before .before .before .if1 .left)) (laid (c .got2 .ensures) refl (c .before .before .before .named .ensures .1 (z .is))))
 
 pub renamed-spec : {M : Type 1} → statement M
 renamed-spec =

@@ -1,5 +1,5 @@
 -- Made by `proofkit expand` from Proof.tmpl beside it: edit that file.
-use native.Mathlib.Omega.{arith}
+use Rattle.reader.proofs.Turning.{rotated, unrotated}
 use borrow.Author.Needs.{needs}
 use Rattle.reader.proofs.rotate.Statement.{statement}
 use Rattle.reader.proofs.rotate.Tie as tie
@@ -7,33 +7,33 @@ use Rattle.reader.proofs.rotate.Reads as reads
 use Rattle.reader.proofs.rotate.Lts as lts
 use Rattle.reader.proofs.reverse.Reads as reverse-reads
 
--- src/lib.rt:1468:8
+-- src/lib.rt:14:8
 mul-if1 : tie.Need-mul-if1
 mul-if1 c = search needs
 
--- src/lib.rt:1469:9
+-- src/lib.rt:15:9
 reverse-requires : tie.Need-reverse-requires
-reverse-requires c κs = omega arith
+reverse-requires c κs = search needs
 
--- src/lib.rt:1470:9
+-- src/lib.rt:16:9
 reverse-requires-2 : tie.Need-reverse-requires-2
 reverse-requires-2 c κs = search needs
 
--- src/lib.rt:1471:9
+-- src/lib.rt:17:9
 reverse-requires-3 : tie.Need-reverse-requires-3
-reverse-requires-3 c κs = omega (arith, c .before .before .before .before .before .before .before .before .before .before .before .pre, c .before .before .before .before .before .before .before .before .before .if1 .taken)
+reverse-requires-3 c κs = search needs
 
--- src/lib.rt:1465:1
+-- src/lib.rt:10:1
 same-length : tie.Need-same-length
 same-length c = search needs
 
--- src/lib.rt:1465:1
+-- src/lib.rt:10:1
 returns : tie.Need-returns
-returns c = search needs
+returns c N rs qs e a = rotated N (c .before .before .before .before .before .before .before .before .before .before .before .before .before .before .args .nodes .now) _ _ _ rs qs (c .before .before .before .before .before .before .before .before .before .before .before .before .before .before .args .base) (c .before .before .before .before .before .before .before .before .before .before .before .before .before .before .args .mid) (c .before .before .before .before .before .before .before .before .before .before .before .before .before .before .args .end) (c .before .before .before .before .before .before .before .before .before .before .reverse .ensures) (c .before .before .before .before .before .before .reverse2 .ensures) (c .before .before .reverse3 .ensures) e a
 
--- src/lib.rt:1465:1
+-- src/lib.rt:10:1
 returns-2 : tie.Need-returns-2
-returns-2 c = search needs
+returns-2 c N rs qs e a = unrotated N (c .before .before .args .nodes .now) _ rs qs (c .before .before .args .base) (c .before .before .args .end) (c .if1 .left) a
 
 pub rotate-spec : {M : Type 1} → statement M
 rotate-spec =

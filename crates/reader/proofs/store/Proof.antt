@@ -5,6 +5,8 @@ use mathlib.Core.Path.{_∙_, ap}
 use native.Mathlib.Omega.{arith}
 use borrow.Author.Needs.{needs}
 use Rattle.reader.proofs.store.Statement.{statement}
+use Rattle.reader.proofs.Laying.{left}
+use Rattle.descent.proofs.Fill.{fill}
 use Rattle.reader.proofs.store.Tie as tie
 use Rattle.reader.proofs.store.Reads as reads
 use Rattle.reader.proofs.store.Lts as lts
@@ -71,7 +73,8 @@ same-length c = ⊎-elim (λ w. ap length (w .1) ∙ simp length-set) (λ w. ap 
 
 -- src/lib.rt:173:1
 returns : tie.Need-returns
-returns c = search needs
+unfolding fill
+returns c = (omega arith, record { counted = omega arith; stand = λ z. ⊎-elim (λ w. w .1) (λ w. absurd (omega (arith, z, w .0 .left))) (c .if1 .came) })
 
 pub store-spec : {M : Type 1} → statement M
 store-spec =

@@ -1,9 +1,12 @@
 -- Made by `proofkit expand` from Proof.tmpl beside it: edit that file.
 use Rattle.reader.proofs.Steps.{ended, got-in, passed-on}
-use mathlib.Core.Path.{_∙_}
+use mathlib.Core.Path.{_∙_, refl}
 use native.Mathlib.Omega.{arith}
 use borrow.Author.Needs.{needs}
 use Rattle.reader.proofs.table.Statement.{statement}
+use Rattle.reader.proofs.Laying.{laid, goes, halts, topped}
+use Rattle.descent.proofs.Filling.{_then_}
+use Rattle.descent.proofs.Walk.{tableW}
 use Rattle.reader.proofs.table.Tie as tie
 use Rattle.reader.proofs.table.Reads as reads
 use Rattle.reader.proofs.table.Lts as lts
@@ -31,11 +34,12 @@ same-length c = search needs
 
 -- src/lib.rt:1300:9
 returns : tie.Need-returns
-returns c = passed-on (c .before .before .before .before .qualified .ensures) (c .enum-told .given .1)
+unfolding tableW
+returns c = (passed-on (c .before .before .before .before .qualified .ensures .0) (c .enum-told .given .1), halts _ _ (c .before .before .before .before .qualified .ensures .1) (c .enum-told .given .1))
 
 -- src/lib.rt:1302:9
 alias-requires : tie.Need-alias-requires
-alias-requires c κs = omega (arith, got-in (c .before .before .before .before .before .before .qualified .ensures) (c .before .before .t .given .1), c .before .before .before .before .before .before .before .before .before .pre)
+alias-requires c κs = omega (arith, got-in (c .before .before .before .before .before .before .qualified .ensures .0) (c .before .before .t .given .1), c .before .before .before .before .before .before .before .before .before .pre)
 
 -- src/lib.rt:1303:19
 enum-known-a : tie.Need-enum-known-a
@@ -51,11 +55,12 @@ same-length-2 c = search needs
 
 -- src/lib.rt:1304:9
 returns-2 : tie.Need-returns-2
-returns-2 c = passed-on (c .before .before .before .before .alias .ensures) (c .enum-told2 .given .1)
+unfolding tableW
+returns-2 c = (passed-on (c .before .before .before .before .alias .ensures .0) (c .enum-told2 .given .1), goes _ _ (c .before .before .before .before .before .before .before .before .before .before .before .qualified .ensures .1) (c .before .before .before .before .before .before .before .t .given .1) (λ rs F. halts _ _ (c .before .before .before .before .alias .ensures .1) (c .enum-told2 .given .1)))
 
 -- src/lib.rt:1306:9
 index-requires : tie.Need-index-requires
-index-requires c κs = omega (arith, got-in (c .before .before .before .before .before .before .alias .ensures) (c .before .before .a .given .1), got-in (c .before .before .before .before .before .before .before .before .before .before .before .before .before .qualified .ensures) (c .before .before .before .before .before .before .before .before .before .t .given .1), c .before .before .before .before .before .before .before .before .before .before .before .before .before .before .before .before .pre)
+index-requires c κs = omega (arith, got-in (c .before .before .before .before .before .before .alias .ensures .0) (c .before .before .a .given .1), got-in (c .before .before .before .before .before .before .before .before .before .before .before .before .before .qualified .ensures .0) (c .before .before .before .before .before .before .before .before .before .t .given .1), c .before .before .before .before .before .before .before .before .before .before .before .before .before .before .before .before .pre)
 
 -- src/lib.rt:1307:19
 enum-known-x : tie.Need-enum-known-x
@@ -71,7 +76,8 @@ same-length-3 c = search needs
 
 -- src/lib.rt:1308:9
 returns-3 : tie.Need-returns-3
-returns-3 c = passed-on (c .before .before .before .before .index .ensures) (c .enum-told3 .given .1)
+unfolding tableW
+returns-3 c = (passed-on (c .before .before .before .before .index .ensures .0) (c .enum-told3 .given .1), goes _ _ (c .before .before .before .before .before .before .before .before .before .before .before .before .before .before .before .before .before .before .qualified .ensures .1) (c .before .before .before .before .before .before .before .before .before .before .before .before .before .before .t .given .1) (λ rs F. goes _ _ (c .before .before .before .before .before .before .before .before .before .before .before .alias .ensures .1) (c .before .before .before .before .before .before .before .a .given .1) (λ qs G. halts _ _ (c .before .before .before .before .index .ensures .1) (c .enum-told3 .given .1))))
 
 -- src/lib.rt:1314:9
 cast-emit : tie.Need-cast-emit
@@ -91,15 +97,15 @@ add-emit c = search needs
 
 -- src/lib.rt:1316:9
 sub-emit : tie.Need-sub-emit
-sub-emit c = omega (arith, got-in (c .before .before .before .before .before .before .before .index .ensures) (c .before .before .before .x .given .1), got-in (c .before .before .before .before .before .before .before .before .before .before .before .before .before .before .alias .ensures) (c .before .before .before .before .before .before .before .before .before .before .a .given .1), got-in (c .before .before .before .before .before .before .before .before .before .before .before .before .before .before .before .before .before .before .before .before .before .qualified .ensures) (c .before .before .before .before .before .before .before .before .before .before .before .before .before .before .before .before .before .t .given .1), c .before .before .before .before .before .before .before .before .before .before .before .before .before .before .before .before .before .before .before .before .before .before .before .before .pre)
+sub-emit c = omega (arith, got-in (c .before .before .before .before .before .before .before .index .ensures .0) (c .before .before .before .x .given .1), got-in (c .before .before .before .before .before .before .before .before .before .before .before .before .before .before .alias .ensures .0) (c .before .before .before .before .before .before .before .before .before .before .a .given .1), got-in (c .before .before .before .before .before .before .before .before .before .before .before .before .before .before .before .before .before .before .before .before .before .qualified .ensures .0) (c .before .before .before .before .before .before .before .before .before .before .before .before .before .before .before .before .before .t .given .1), c .before .before .before .before .before .before .before .before .before .before .before .before .before .before .before .before .before .before .before .before .before .before .before .before .pre)
 
 -- src/lib.rt:1316:9
 add-emit-2 : tie.Need-add-emit-2
-add-emit-2 c = omega (arith, got-in (c .before .before .before .before .before .before .before .index .ensures) (c .before .before .before .x .given .1), got-in (c .before .before .before .before .before .before .before .before .before .before .before .before .before .before .alias .ensures) (c .before .before .before .before .before .before .before .before .before .before .a .given .1), got-in (c .before .before .before .before .before .before .before .before .before .before .before .before .before .before .before .before .before .before .before .before .before .qualified .ensures) (c .before .before .before .before .before .before .before .before .before .before .before .before .before .before .before .before .before .t .given .1), c .before .before .before .before .before .before .before .before .before .before .before .before .before .before .before .before .before .before .before .before .before .before .before .before .pre)
+add-emit-2 c = omega (arith, got-in (c .before .before .before .before .before .before .before .index .ensures .0) (c .before .before .before .x .given .1), got-in (c .before .before .before .before .before .before .before .before .before .before .before .before .before .before .alias .ensures .0) (c .before .before .before .before .before .before .before .before .before .before .a .given .1), got-in (c .before .before .before .before .before .before .before .before .before .before .before .before .before .before .before .before .before .before .before .before .before .qualified .ensures .0) (c .before .before .before .before .before .before .before .before .before .before .before .before .before .before .before .before .before .t .given .1), c .before .before .before .before .before .before .before .before .before .before .before .before .before .before .before .before .before .before .before .before .before .before .before .before .pre)
 
 -- src/lib.rt:1310:9
 emit-requires : tie.Need-emit-requires
-emit-requires c κs = omega (arith, got-in (c .before .before .before .before .before .before .before .index .ensures) (c .before .before .before .x .given .1), got-in (c .before .before .before .before .before .before .before .before .before .before .before .before .before .before .alias .ensures) (c .before .before .before .before .before .before .before .before .before .before .a .given .1), got-in (c .before .before .before .before .before .before .before .before .before .before .before .before .before .before .before .before .before .before .before .before .before .qualified .ensures) (c .before .before .before .before .before .before .before .before .before .before .before .before .before .before .before .before .before .t .given .1), c .before .before .before .before .before .before .before .before .before .before .before .before .before .before .before .before .before .before .before .before .before .before .before .before .pre)
+emit-requires c κs = omega (arith, got-in (c .before .before .before .before .before .before .before .index .ensures .0) (c .before .before .before .x .given .1), got-in (c .before .before .before .before .before .before .before .before .before .before .before .before .before .before .alias .ensures .0) (c .before .before .before .before .before .before .before .before .before .before .a .given .1), got-in (c .before .before .before .before .before .before .before .before .before .before .before .before .before .before .before .before .before .before .before .before .before .qualified .ensures .0) (c .before .before .before .before .before .before .before .before .before .before .before .before .before .before .before .before .before .t .given .1), c .before .before .before .before .before .before .before .before .before .before .before .before .before .before .before .before .before .before .before .before .before .before .before .before .pre)
 
 -- src/lib.rt:1318:5
 got-requires : tie.Need-got-requires
@@ -111,7 +117,8 @@ same-length-4 c = c .before .before .before .emit .kept .0 ∙ c .before .before
 
 -- src/lib.rt:1294:1
 returns-4 : tie.Need-returns-4
-returns-4 c = ended (c .got .ensures) (omega (arith, got-in (c .before .before .before .before .before .before .before .before .before .before .before .index .ensures) (c .before .before .before .before .before .before .before .x .given .1), got-in (c .before .before .before .before .before .before .before .before .before .before .before .before .before .before .before .before .before .before .alias .ensures) (c .before .before .before .before .before .before .before .before .before .before .before .before .before .before .a .given .1), got-in (c .before .before .before .before .before .before .before .before .before .before .before .before .before .before .before .before .before .before .before .before .before .before .before .before .before .qualified .ensures) (c .before .before .before .before .before .before .before .before .before .before .before .before .before .before .before .before .before .before .before .before .before .t .given .1), c .before .before .before .before .before .before .before .before .before .before .before .before .before .before .before .before .before .before .before .before .before .before .before .before .before .before .before .before .pre, c .before .before .before .emit .ensures))
+unfolding tableW
+returns-4 c = (ended (c .got .ensures) (omega (arith, got-in (c .before .before .before .before .before .before .before .before .before .before .before .index .ensures .0) (c .before .before .before .before .before .before .before .x .given .1), got-in (c .before .before .before .before .before .before .before .before .before .before .before .before .before .before .before .before .before .before .alias .ensures .0) (c .before .before .before .before .before .before .before .before .before .before .before .before .before .before .a .given .1), got-in (c .before .before .before .before .before .before .before .before .before .before .before .before .before .before .before .before .before .before .before .before .before .before .before .before .before .qualified .ensures .0) (c .before .before .before .before .before .before .before .before .before .before .before .before .before .before .before .before .before .before .before .before .before .t .given .1), c .before .before .before .before .before .before .before .before .before .before .before .before .before .before .before .before .before .before .before .before .before .before .before .before .before .before .before .before .pre, c .before .before .before .emit .ensures .0)), goes _ _ (c .before .before .before .before .before .before .before .before .before .before .before .before .before .before .before .before .before .before .before .before .before .before .before .before .before .qualified .ensures .1) (c .before .before .before .before .before .before .before .before .before .before .before .before .before .before .before .before .before .before .before .before .before .t .given .1) (λ rs F. goes _ _ (c .before .before .before .before .before .before .before .before .before .before .before .before .before .before .before .before .before .before .alias .ensures .1) (c .before .before .before .before .before .before .before .before .before .before .before .before .before .before .a .given .1) (λ qs G. goes _ _ (c .before .before .before .before .before .before .before .before .before .before .before .index .ensures .1) (c .before .before .before .before .before .before .before .x .given .1) (λ ps H. laid (c .got .ensures) refl (topped (F then G then H) (c .before .before .before .emit .ensures .1))))))
 
 pub table-spec : {M : Type 1} → statement M
 table-spec =

@@ -1,7 +1,14 @@
 -- Made by `proofkit expand` from Proof.tmpl beside it: edit that file.
-use mathlib.Core.Path.{refl}
+use mathlib.Core.Path.{refl, sym, ap, _∙_}
 use borrow.Author.Needs.{needs}
 use Rattle.reader.proofs.too_deep.Statement.{statement}
+use Rattle.reader.proofs.Laying.{left, is, no-left, no-right}
+use Rattle.reader.proofs.KindTests.{deep-weak, deep-strong, deep-five}
+use Rattle.reader.specs.Bounds.{strengthAsked}
+use borrow.Author.Tests.{ne-eqb, not-false, not-true, le-ltb}
+use mathlib.Core.Logic.{⊎-elim}
+use native.Mathlib.Omega.{arith}
+use Rattle.reader.specs.declared.Step.the-variants as step
 use Rattle.reader.proofs.too_deep.Tie as tie
 use Rattle.reader.proofs.too_deep.Reads as reads
 use Rattle.reader.proofs.too_deep.Lts as lts
@@ -19,7 +26,7 @@ wrong-requires c κs = search needs
 
 -- src/lib.rt:328:9
 returns : tie.Need-returns
-returns c = c .wrong .ensures
+returns c = (c .wrong .ensures .0, c .wrong .ensures .1 ∙ ap (λ z. step.Refused z (c .before .before .before .args .at)) (sym (deep-weak _ (strengthAsked (c .before .before .before .args .ask)) (sym (c .before .before .begins-expr .ensures) ∙ not-true _ (c .before .if1 .taken)))))
 
 -- src/lib.rt:331:12
 asked-requires : tie.Need-asked-requires
@@ -31,7 +38,7 @@ wrong-requires-2 c κs = search needs
 
 -- src/lib.rt:332:13
 returns-2 : tie.Need-returns-2
-returns-2 c = c .wrong2 .ensures
+returns-2 c = (c .wrong2 .ensures .0, c .wrong2 .ensures .1 ∙ ap (λ z. step.Refused z (c .before .before .before .before .before .before .args .at)) (sym (deep-strong (c .before .before .before .before .before .before .args .kind) (strengthAsked (c .before .before .before .before .before .before .args .ask)) (c .before .before .before .if2 .taken) (omega (arith, c .before .if3 .taken, c .before .before .asked .ensures)))))
 
 -- src/lib.rt:335:22
 cast-t8 : tie.Need-cast-t8
@@ -39,7 +46,7 @@ cast-t8 c = search needs
 
 -- src/lib.rt:323:1
 returns-3 : tie.Need-returns-3
-returns-3 c = record { why = 5; is = refl }
+returns-3 c = (record { why = 5; is = refl }, ap (λ z. step.Refused z (c .before .before .before .args .at)) (sym (deep-five _ (strengthAsked (c .before .before .before .args .ask)) (sym (c .before .before .begins-expr .ensures) ∙ not-false _ (c .before .if1 .left)) (⊎-elim (λ w. no-right _ _ (le-ltb 3 (strengthAsked (c .before .before .before .args .ask)) (omega (arith, w .1 .ensures, w .2 .left)))) (λ w. no-left _ _ (ne-eqb _ _ (w .left))) (c .if2 .came)))))
 
 pub too-deep-spec : {M : Type 1} → statement M
 too-deep-spec =

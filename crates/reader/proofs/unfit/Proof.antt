@@ -1,6 +1,9 @@
 -- Made by `proofkit expand` from Proof.tmpl beside it: edit that file.
-use Prim.Native.Nat.{_-_, _≤_}
-use Rattle.reader.specs.Bounds.{texts}
+use Prim.Native.Nat.{_-_, _<_, _≤_, ℕ}
+use Rattle.reader.proofs.Fitness.{FitAt, all-below, first-unfit}
+use borrow.Author.Count.{below-more, below-none}
+use borrow.Author.Tests.{not-false, not-true}
+use mathlib.Core.Path.{sym, _∙_}
 use borrow.Author.Needs.{needs}
 use lib.ListN.{length}
 use native.Mathlib.Omega.{arith}
@@ -11,14 +14,14 @@ use Rattle.reader.proofs.unfit.Lts as lts
 use Rattle.kinds.proofs.fit.Reads as fit-reads
 
 abbrev Inv-loop : tie.InvT-loop
-Inv-loop kinds texts i₀ i = i ≤ length kinds
+Inv-loop kinds texts i₀ i = (i ≤ length kinds) × ((j : ℕ) → j < i → FitAt kinds texts j)
 
 abbrev μ-loop : tie.MeasureT-loop
 μ-loop kinds texts i₀ i = length kinds - i
 
 -- src/lib.rt:1531:5
 loop-holds : tie.Need-loop-holds Inv-loop μ-loop
-loop-holds c = omega arith
+loop-holds c = (omega arith, below-none (FitAt (c .before .before .args .kinds .now) (c .before .before .args .texts .now)))
 
 -- src/lib.rt:1532:24
 mul-fit : tie.Need-mul-fit Inv-loop μ-loop
@@ -42,7 +45,7 @@ fit-requires c κs = search needs
 
 -- src/lib.rt:1533:13
 returns : tie.Need-returns Inv-loop μ-loop
-returns c = search needs
+returns c = λ n. first-unfit (c .before .before .before .before .before .before .before .before .args .kinds .now) (c .before .before .before .before .before .before .before .before .args .texts .now) (c .before .before .before .before .before .loop .i) (omega arith) (omega arith) (c .before .before .before .before .before .loop .inv .1) (sym (c .before .fit .ensures) ∙ not-true _ (c .if1 .taken))
 
 -- src/lib.rt:1535:9
 add-i : tie.Need-add-i Inv-loop μ-loop
@@ -54,11 +57,11 @@ loop-less c = omega arith
 
 -- src/lib.rt:1531:5
 loop-again : tie.Need-loop-again Inv-loop μ-loop
-loop-again c = omega arith
+loop-again c = (omega arith, below-more (FitAt (c .before .before .before .before .before .before .before .before .args .kinds .now) (c .before .before .before .before .before .before .before .before .args .texts .now)) (c .before .before .before .before .before .loop .i) (c .before .before .before .before .before .loop .inv .1) (sym (c .before .fit .ensures) ∙ not-false _ (c .if1 .left)))
 
 -- src/lib.rt:1527:1
 returns-2 : tie.Need-returns-2 Inv-loop μ-loop
-returns-2 c = search needs
+returns-2 c = λ n. absurd (n (all-below (c .before .before .before .before .args .kinds .now) (c .before .before .before .before .args .texts .now) (λ j l. c .before .loop .inv .1 j (omega arith))))
 
 pub unfit-spec : {M : Type 1} → statement M
 unfit-spec =

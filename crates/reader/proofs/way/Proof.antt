@@ -3,6 +3,9 @@ use Rattle.reader.proofs.Steps.{further}
 use native.Mathlib.Omega.{arith}
 use borrow.Author.Needs.{needs}
 use Rattle.reader.proofs.way.Statement.{statement}
+use Rattle.reader.proofs.Laying.{took, left, is, isn't, differs}
+use Rattle.descent.proofs.Walk.{wayW}
+use mathlib.Core.Path.{refl}
 use Rattle.reader.proofs.way.Tie as tie
 use Rattle.reader.proofs.way.Reads as reads
 use Rattle.reader.proofs.way.Lts as lts
@@ -35,15 +38,18 @@ nulls-requires-3 c κs = search needs
 
 -- src/lib.rt:1405:1
 returns : tie.Need-returns
-returns c = further (c .nulls .ensures) (omega arith)
+unfolding wayW
+returns c = (further (c .nulls .ensures .0) (omega arith), took _ _ _ (is (c .before .before .peek .ensures) (c .before .match .keys1)) (c .nulls .ensures .1))
 
 -- src/lib.rt:1405:1
 returns-2 : tie.Need-returns-2
-returns-2 c = further (c .nulls2 .ensures) (omega arith)
+unfolding wayW
+returns-2 c = (further (c .nulls2 .ensures .0) (omega arith), left _ _ _ (differs _ (c .before .before .peek .ensures) (c .before .match .keys2) refl) (took _ _ _ (is (c .before .before .peek .ensures) (c .before .match .keys2)) (c .nulls2 .ensures .1)))
 
 -- src/lib.rt:1405:1
 returns-3 : tie.Need-returns-3
-returns-3 c = further (c .nulls3 .ensures) (omega arith)
+unfolding wayW
+returns-3 c = (further (c .nulls3 .ensures .0) (omega arith), left _ _ _ (isn't (c .before .before .peek .ensures) (c .before .match .rest .0 .1)) (left _ _ _ (isn't (c .before .before .peek .ensures) (c .before .match .rest .1)) (c .nulls3 .ensures .1)))
 
 pub way-spec : {M : Type 1} → statement M
 way-spec =
