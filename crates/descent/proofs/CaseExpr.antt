@@ -20,7 +20,7 @@ use Rattle.grammar.specs.Nodes.{count}
 use Rattle.grammar.specs.Reading.{Val, empty, side, one, opt, value, _#_}
 use Rattle.descent.proofs.Places.{kindAt, tokAt, wrong, OpenRow}
 use Rattle.descent.proofs.Named.{caseRow, own}
-use Rattle.descent.proofs.Walk.{missing, exprW, casedW, whensW, clauseW}
+use Rattle.descent.proofs.Walk.{missing, exprW, casedW, whenW, clauseW}
 use Rattle.descent.proofs.Grown.{recsAll, recs}
 use Rattle.descent.proofs.Steps.{nt-got, nt-refused, lit-got, lit-wrong, call-absent}
 use Rattle.descent.proofs.Growing.{side-cons, side-append}
@@ -91,7 +91,7 @@ module _ (K T : List ℕ) (good : Good K T) (f : ℕ) where
   unfolding exprW mem pick capOf
   case-ok base whens clause = row-ok K T caseRow _ (λ at c d A t e. let F : OpenRow = record { c = d; A = A; r = caseRow; l = nil; t = t } in
       told-bind (casedW K T f at c) _ (base at c F (nt (E 1) ∷ lit THEN ∷ nt (E 1) ∷ nt (any Whens?) ∷ nt (any Else?) ∷ lit END ∷ []) nil e refl)
-      (λ a s i rs p. told-bind (whensW K T f a c 0) _ (whens a c 0 F (nt (any Else?) ∷ lit END ∷ []) (add nil (p .0)) e refl)
+      (λ a s i rs p. told-bind (whenW K T f a c 0) _ (whens a c 0 F (nt (any Else?) ∷ lit END ∷ []) (add nil (p .0)) e refl)
       (λ b s m qs q. told-bind (clauseW K T f b ELSE c) _ (clause b c Else? ELSE _ else-clause)
       (λ g s i ps h. let before = p .1 ∙ q .5 ∙ nt-got K T (good .sound) F (any Else?) (lit END ∷ []) _ b (rw e (h .1)) in
       let v = is-one _ row-case node-case 0 (m + 2) _ (rs ++ (qs ++ ps)) (value-in-case t (p .0) (q .0) (q .1) (q .2) (q .3) (q .4) (h .0) (tokAt K T g))

@@ -20,7 +20,7 @@ use Rattle.grammar.specs.Limits.{Around, isQuery}
 use Rattle.grammar.specs.Reading.{value}
 use Rattle.descent.proofs.Places.{kindAt, tokAt, wrong, OpenRow, calls, rests, again}
 use Rattle.descent.proofs.Named.{parensRow, existsRow, caseRow, castRow, headRow, own}
-use Rattle.descent.proofs.Walk.{Walked, deeper, notB, κ, wrongAt, exprW, prefixW, parenW, existsW, caseW, castW}
+use Rattle.descent.proofs.Walk.{Walked, deeper, notB, κ, wrongAt, exprW, signW, parenW, existsW, caseW, castW}
 use Rattle.descent.proofs.Grown.{recs}
 use Rattle.descent.proofs.SameRow.{below?, throughout}
 use Rattle.descent.proofs.TableFacts.{BOUND}
@@ -103,7 +103,7 @@ module _ (K T : List ℕ) (good : Good K T) where
       (λ z. operand-by castRow (castW K T f) refl refl refl refl cast at c s A t o (head CAST (token-rows (A .of) .2) z) l)
       (λ d. told-choose (eqb (kindAt K at) EXISTS) (existsW K T f (at + 1) (deeper c)) _
       (λ z. operand-by existsRow (existsW K T f) refl refl refl refl exists at c s A t o (head EXISTS (token-rows (A .of) .3) z) l)
-      (λ e. told-choose (ltb 0 (prefixOf (kindAt K at))) (prefixW K T f at c s) (wrongAt K T at)
+      (λ e. told-choose (ltb 0 (prefixOf (kindAt K at))) (signW K T f at c s) (wrongAt K T at)
       (λ z. prefix at c s A t o n l (ltb-true 0 (prefixOf (kindAt K at)) z))
       (λ z. told-stop (wrong (kindAt K at)) at (head-none K T good at c s A t o (compound-none (A .of) (kindAt K at) (good .bound at) x a b d e z) n))))))
     where

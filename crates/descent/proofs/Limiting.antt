@@ -21,7 +21,7 @@ use Rattle.grammar.specs.Limits.{Around, isQuery}
 use Rattle.grammar.specs.Nodes.{Nodes, end, count, beside, records}
 use Rattle.grammar.specs.Reading.{Val, side, choose, isEnd, none-there, opt, limitAndOffset, rules, ruled, valueOf, value, _#_}
 use Rattle.descent.proofs.Places.{kindAt, tokAt, from, OpenRow, calls, rests}
-use Rattle.descent.proofs.Walk.{done, onto, missing, exprW, orderW, limitW}
+use Rattle.descent.proofs.Walk.{done, onto, missing, exprW, sortW, limitW}
 use Rattle.descent.proofs.Grown.{recs}
 use Rattle.descent.proofs.Steps.{nt-got, nt-refused, call-in, call-absent, row-stop}
 use Rattle.descent.proofs.Growing.{records-beside, count-beside}
@@ -122,7 +122,7 @@ module _ (K T : List ℕ) (good : Good K T) (f : ℕ) where
   unfolding exprW isQuery pick value opt choose isEnd records count side
   tail-ok order limit at c F is k h = told-choose (eqb (kindAt K at) ORDER) _ (onto (missing ∷ []) (limitW K T f at c))
       (λ z. let begin = call-in K T (good .sound) c (any Order?) at (orderRow K T) (ap (enterOf sql (any Order?)) (eqb-eq (kindAt K at) ORDER z) ∙ Order-at-ORDER) (part-no-word c (orderRow K T) (tokAt K T at) refl refl) in
-      told-bind (orderW K T f (at + 1) c) _ (order (at + 1) c (tokAt K T at))
+      told-bind (sortW K T f (at + 1) c) _ (order (at + 1) c (tokAt K T at))
       (λ a x n rs p. let first = nt-got K T (good .sound) F (any Order?) (nt (any Limit?) ∷ is) k at (rw h (begin ∙ p .1)) in
       told-onto rs (limitW K T f a c) (limit a c)
       (λ b s m qs q. (

@@ -26,7 +26,7 @@ use Rattle.grammar.specs.Reading.{Val, one, says, choose, isEnd, opt, name, isQ
 use Rattle.theory.proofs.Lists.{Begun, more}
 use Rattle.descent.proofs.Places.{tokAt, from, Sound, OpenRow, calls, rests, again}
 use Rattle.descent.proofs.Named.{notRow, opRow, parensRow, existsRow, caseRow, castRow, namesRow, own}
-use Rattle.descent.proofs.Walk.{Walked, done, stop, spent, opening, notB, over, κ, namesW, exprW, leafW, operandW, opsW, opW, negatedW, binaryW, betweenW, afterW, insideW, listW, prefixW, callW, parenW, subW, existsW, caseW, casedW, whensW, castW, queryW, bodyW, tailW, rowsW, rowW, selectW, selectedW, partsW, clauseW, groupW, colsW, colW, fromW, joinsW, onW, sourceW, orderW, termsW, limitW}
+use Rattle.descent.proofs.Walk.{Walked, done, stop, spent, opening, notB, over, κ, namesW, exprW, leafW, operandW, opsW, opW, negatedW, binaryW, rangeW, afterW, amongW, listW, signW, callW, parenW, subW, existsW, caseW, casedW, whenW, castW, queryW, bodyW, tailW, rowsW, rowW, selectW, selectedW, partsW, clauseW, groupW, colsW, colW, fromW, joinsW, onW, sourceW, sortW, termsW, limitW}
 use Rattle.descent.proofs.Grown.{recs}
 
 -- ── trees ──
@@ -198,7 +198,7 @@ module _ (K T : List ℕ) where
   abbrev pub BetweenOK : ℕ → Type 0
   BetweenOK f = (at : ℕ) (c : Around) (not pre : ℕ) (F : OpenRow) → F .r .items ≡ nt (E 5) ∷ lit AND ∷ nt (E 5) ∷ [] → below (F .r) (F .c) ≡ c
       → mem (F .r .code) (row-word-join ∷ row-next-row ∷ []) ≡ false
-      → Told (betweenW K T f at c 5 not pre)
+      → Told (rangeW K T f at c 5 not pre)
       (λ a s m rs. (x : Tree) × (u : Tok) × (z : Tree) × (rests K T F (F .r .items) nil at ≡ rests K T F [] (add (add (add nil x) (leaf u)) z) a)
       × ((i : ℕ) × ExprTree x i) × ((i : ℕ) × ExprTree z i) × (rs ≡ over 43 not 3 pre (recs (value x) ++ recs (value z))))
       (λ m p. rests K T F (F .r .items) nil at ≡ refused m p)
@@ -222,13 +222,13 @@ module _ (K T : List ℕ) where
   abbrev pub InsideOK : ℕ → Type 0
   InsideOK f = (at : ℕ) (c : Around) (not pre : ℕ) (F : OpenRow) → F .r .items ≡ lit LP ∷ nt (any Inside?) ∷ lit RP ∷ [] → below (F .r) (F .c) ≡ c
       → mem (F .r .code) (row-word-join ∷ row-next-row ∷ []) ≡ false
-      → Told (insideW K T f at c not pre)
+      → Told (amongW K T f at c not pre)
       (λ a s m rs. (u : Tok) × (x : Tree) × (w : Tok) × (rests K T F (F .r .items) nil at ≡ rests K T F [] (add (add (add nil (leaf u)) x) (leaf w)) a)
       × (rs ≡ over (choose (isQueryVal (value x)) node-in-query node-in-list) not 2 pre (recs (inside (value x)))) × Single (inside (value x) .nodes))
       (λ m p. rests K T F (F .r .items) nil at ≡ refused m p)
 
   abbrev pub PrefixOK : ℕ → Type 0
-  PrefixOK f = OperandOK (prefixW K T f) (λ k. 0 < prefixOf k)
+  PrefixOK f = OperandOK (signW K T f) (λ k. 0 < prefixOf k)
 
   -- ── lists ──
   -- the members of a list after a separator u, where those before it are x (nil: none yet): r is the row of the list's class C
@@ -247,7 +247,7 @@ module _ (K T : List ℕ) where
   -- at a further WHEN, after the pairs x
   abbrev pub FurtherWhensOK : ℕ → Type 0
   FurtherWhensOK f = (at : ℕ) (c : Around) (n : ℕ) (x : Tree) → κ K T at ≡ WHEN
-      → Told (whensW K T f at c n)
+      → Told (whenW K T f at c n)
       (λ a s m rs. (y : Tree) × (rests K T (record { c = c; A = any Whens?; r = nextWhen; l = x; t = tokAt K T at }) (nextWhen .items) nil (at + 1) ≡ got y a (from K T a))
       × (m + count (value x .nodes) ≡ n + count (value y .nodes)) × (recs (value y) ≡ recs (value x) ++ rs))
       (λ m p. rests K T (record { c = c; A = any Whens?; r = nextWhen; l = x; t = tokAt K T at }) (nextWhen .items) nil (at + 1) ≡ refused m p)
@@ -334,7 +334,7 @@ module _ (K T : List ℕ) where
   -- WHEN expression THEN expression and those after it: five items of a row
   abbrev pub WhensOK : ℕ → Type 0
   WhensOK f = (at : ℕ) (c : Around) (n : ℕ) (F : OpenRow) (is : List Item) (k : Tree) → below (F .r) (F .c) ≡ c → mem (F .r .code) (row-word-join ∷ row-next-row ∷ []) ≡ false
-      → Told (whensW K T f at c n)
+      → Told (whenW K T f at c n)
       (λ a s m rs. (u : Tok) × (x : Tree) × (v : Tok) × (z : Tree) × (l : Tree)
       × (rests K T F (lit WHEN ∷ nt (E 1) ∷ lit THEN ∷ nt (E 1) ∷ nt (any Whens?) ∷ is) k at ≡ rests K T F is (add (add (add (add (add k (leaf u)) x) (leaf v)) z) l) a)
       × (m ≡ n + 2 + count (value l .nodes)) × Single (value x .nodes) × Single (value z .nodes) × (rs ≡ recs (value x) ++ (recs (value z) ++ recs (value l))))
@@ -481,7 +481,7 @@ module _ (K T : List ℕ) where
 
   abbrev pub OrderOK : ℕ → Type 0
   OrderOK f = (at : ℕ) (c : Around) (u : Tok)
-      → Told (orderW K T f at c)
+      → Told (sortW K T f at c)
       (λ a s m rs. (y : Tree) × (rests K T (record { c = c; A = any Order?; r = orderRow; l = nil; t = u }) (orderRow .items) nil at ≡ got y a (from K T a))
       × (rs ≡ recs (value y)) × Single (value y .nodes))
       (λ m p. rests K T (record { c = c; A = any Order?; r = orderRow; l = nil; t = u }) (orderRow .items) nil at ≡ refused m p)

@@ -21,7 +21,7 @@ use Rattle.grammar.specs.Nodes.{end, count, beside, rec, records}
 use Rattle.grammar.specs.Reading.{Val, empty, side, cat, one, choose, isQueryVal, inside, rules, ruled, valueOf, value, _#_}
 use Rattle.descent.proofs.Places.{kindAt, tokAt, wrong, OpenRow, calls, rests}
 use Rattle.descent.proofs.Named.{notRow}
-use Rattle.descent.proofs.Walk.{Walked, done, over, wrongAt, exprW, binaryW, betweenW, insideW}
+use Rattle.descent.proofs.Walk.{Walked, done, over, wrongAt, exprW, binaryW, rangeW, amongW}
 use Rattle.descent.proofs.Steps.{nt-got, nt-refused, call-in, call-wrong, row-stop}
 use Rattle.descent.proofs.Growing.{records-beside, count-beside}
 use Rattle.descent.proofs.ClassFacts.{out, firsts-Not, Not-at-LIKE-KW, Not-at-IN, Not-at-BETWEEN, Not-at-NULL, Not-may}
@@ -94,20 +94,20 @@ module _ (K T : List ℕ) (good : Good K T) (f : ℕ) (at : ℕ) (c : Around) (p
   abbrev Comes : Walked → Type 0
   Comes w = Goes K T F (nt (any Not) ∷ []) nil at pre w
 
-  negated-in : InsideOK K T f → kindAt K at ≡ IN → Comes (insideW K T f (at + 1) c 1 pre)
+  negated-in : InsideOK K T f → kindAt K at ≡ IN → Comes (amongW K T f (at + 1) c 1 pre)
   unfolding isQuery pick mem capOf side
   negated-in ok e sg len = let on = begun-part notIn (rw e Not-at-IN) refl refl in
-      told-map (insideW K T f (at + 1) c 1 pre) (ok (at + 1) c 1 pre (inner notIn) refl (below-part notIn c refl refl) refl)
+      told-map (amongW K T f (at + 1) c 1 pre) (ok (at + 1) c 1 pre (inner notIn) refl (below-part notIn c refl refl) refl)
       (λ a s m rs q. let k = add (add (add nil (leaf (q .0))) (q .1)) (leaf (q .2)) in let x = inside (value (q .1)) in let o = over-in (tokAt K T at) (leaf (q .0)) (q .1) (leaf (q .2)) in
       let g = made (choose (isQueryVal (value (q .1))) node-in-query node-in-list) 1 2 pre (x ∷ []) (x .nodes) (node' (node notIn nil (tokAt K T at) k)) (value (F .l)) rs (o .0) (o .1)
       (beside-end (x .nodes)) (ap (λ i. i + 1) (single-count (x .nodes) (q .5))) sg len (q .4) in
       (add nil (node notIn nil (tokAt K T at) k), whole-part notIn k a (on ∙ q .3), omega arith, g .0, g .1, g .2))
       (λ m p h. nt-refused K T (good .sound) F (any Not) [] nil at (rw b (on ∙ h)))
 
-  negated-between : BetweenOK K T f → kindAt K at ≡ BETWEEN → Comes (betweenW K T f (at + 1) c 5 1 pre)
+  negated-between : BetweenOK K T f → kindAt K at ≡ BETWEEN → Comes (rangeW K T f (at + 1) c 5 1 pre)
   unfolding isQuery pick mem capOf side
   negated-between ok e sg len = let on = begun-part notBetween (rw e Not-at-BETWEEN) refl refl in
-      told-map (betweenW K T f (at + 1) c 5 1 pre) (ok (at + 1) c 1 pre (inner notBetween) refl (below-part notBetween c refl refl) refl)
+      told-map (rangeW K T f (at + 1) c 5 1 pre) (ok (at + 1) c 1 pre (inner notBetween) refl (below-part notBetween c refl refl) refl)
       (λ a s m rs q. let x = q .0 in let z = q .2 in let k = add (add (add nil x) (leaf (q .1))) z in let o = over-between (tokAt K T at) (q .1) x z in
       let ns = beside (value x .nodes) (value z .nodes) in
       let g = made node-between 1 3 pre (cat (value x ∷ empty ∷ value z ∷ []) ∷ []) ns (node' (node notBetween nil (tokAt K T at) k)) (value (F .l)) rs (o .0) (o .1)
@@ -144,9 +144,9 @@ module _ (K T : List ℕ) (good : Good K T) (f : ℕ) (at : ℕ) (c : Around) (p
 module _ (K T : List ℕ) (good : Good K T) (f : ℕ) where
   pub negated-ok : InsideOK K T f → BetweenOK K T f → BinaryOK K T f → NegatedOK K T (suc f)
   unfolding exprW
-  negated-ok inside between binary at c pre F isNot b sg len = told-choose (eqb (kindAt K at) IN) (insideW K T f (at + 1) c 1 pre) _
+  negated-ok inside between binary at c pre F isNot b sg len = told-choose (eqb (kindAt K at) IN) (amongW K T f (at + 1) c 1 pre) _
       (λ z. negated-in K T good f at c pre F isNot b inside (eqb-eq (kindAt K at) IN z) sg len)
-      (λ x. told-choose (eqb (kindAt K at) BETWEEN) (betweenW K T f (at + 1) c 5 1 pre) _
+      (λ x. told-choose (eqb (kindAt K at) BETWEEN) (rangeW K T f (at + 1) c 5 1 pre) _
       (λ z. negated-between K T good f at c pre F isNot b between (eqb-eq (kindAt K at) BETWEEN z) sg len)
       (λ y. told-choose (eqb (kindAt K at) LIKE-KW) (binaryW K T f (at + 1) c 5 (300 + getD T at 0) pre) _
       (λ z. negated-like K T good f at c pre F isNot b binary (eqb-eq (kindAt K at) LIKE-KW z) sg len)

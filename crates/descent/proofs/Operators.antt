@@ -22,7 +22,7 @@ use Rattle.grammar.specs.Nodes.{end, count, beside, rec, records}
 use Rattle.grammar.specs.Reading.{Val, empty, side, one, choose, name, isQueryVal, inside, rules, ruled, valueOf, value, _#_}
 use Rattle.descent.proofs.Places.{kindAt, tokAt, from, OpenRow, calls, rests}
 use Rattle.descent.proofs.Named.{isRow, likeRow, inRow, betweenRow, notRow, nullTestRow, collateRow, opRow}
-use Rattle.descent.proofs.Walk.{Walked, done, over, nameRec, collateW, exprW, negatedW, binaryW, betweenW, insideW}
+use Rattle.descent.proofs.Walk.{Walked, done, over, nameRec, collateW, exprW, negatedW, binaryW, rangeW, amongW}
 use Rattle.descent.proofs.SameRow.{eqItems, eqRow, same-row, below?, throughout}
 use Rattle.descent.proofs.TableFacts.{BOUND}
 use Rattle.descent.proofs.Steps.{nt-got, nt-refused, call-absent}
@@ -109,9 +109,9 @@ module _ (K T : List ℕ) (good : Good K T) (f : ℕ) (at : ℕ) (c : Around) (p
   unfolding value valueOf ruled rules pick _#_ side
   over-in e u v x = rw e (refl, refl)
 
-  by-in : InsideOK K T f → F .r ≡ inRow → Comes (insideW K T f (at + 1) c 0 pre)
+  by-in : InsideOK K T f → F .r ≡ inRow → Comes (amongW K T f (at + 1) c 0 pre)
   unfolding capOf mem pick side
-  by-in ok e sg len = told-map (insideW K T f (at + 1) c 0 pre) (ok (at + 1) c 0 pre F (ap (λ q. q .items) e) b (rw e))
+  by-in ok e sg len = told-map (amongW K T f (at + 1) c 0 pre) (ok (at + 1) c 0 pre F (ap (λ q. q .items) e) b (rw e))
       (λ a s m rs q. let x = inside (value (q .1)) in let k = add (add (add nil (leaf (q .0))) (q .1)) (leaf (q .2)) in let o = over-in e (q .0) (q .2) (q .1) in
       let g = made (choose (isQueryVal (value (q .1))) node-in-query node-in-list) 0 2 pre (x ∷ []) (x .nodes) (node' k) (value (F .l)) rs (o .0) (o .1)
       (beside-end (x .nodes)) (ap (λ i. i + 1) (single-count (x .nodes) (q .5))) sg len (q .4) in
@@ -122,9 +122,9 @@ module _ (K T : List ℕ) (good : Good K T) (f : ℕ) (at : ℕ) (c : Around) (p
   unfolding value valueOf ruled rules pick
   over-between e v x z = rw e (refl, refl)
 
-  by-between : BetweenOK K T f → F .r ≡ betweenRow → Comes (betweenW K T f (at + 1) c 5 0 pre)
+  by-between : BetweenOK K T f → F .r ≡ betweenRow → Comes (rangeW K T f (at + 1) c 5 0 pre)
   unfolding capOf mem pick
-  by-between ok e sg len = told-map (betweenW K T f (at + 1) c 5 0 pre) (ok (at + 1) c 0 pre F (ap (λ q. q .items) e) b (rw e))
+  by-between ok e sg len = told-map (rangeW K T f (at + 1) c 5 0 pre) (ok (at + 1) c 0 pre F (ap (λ q. q .items) e) b (rw e))
       (λ a s m rs q. let x = q .0 in let z = q .2 in let k = add (add (add nil x) (leaf (q .1))) z in let o = over-between e (q .1) x z in
       let g = made node-between 0 3 pre (value x ∷ empty ∷ value z ∷ []) (beside (value x .nodes) (value z .nodes)) (node' k) (value (F .l)) rs (o .0) (o .1)
       (bounds-side (value x) (value z)) (bounds-count (value x) (value z) (q .4 .1 .single) (q .5 .1 .single)) sg len
@@ -213,9 +213,9 @@ module _ (K T : List ℕ) (good : Good K T) (f : ℕ) where
       (λ z. rw es (by-binary K T good f at c pre F et b bin (strengthOf (kindAt K at)) (er ∙ op-binary (kindAt K at) (ltb-true (kindAt K at) NOT z)) (strength-most (kindAt K at) (good .bound at)) sg len))
       (λ a. told-choose (eqb (kindAt K at) NOT) (negatedW K T f (at + 1) c s pre) _
       (λ z. rw (es ∙ four (kindAt K at) (rw z)) (by-not K T good f at c pre F et b neg (row NOT notRow (op-rows .0) z) sg len))
-      (λ a1. told-choose (eqb (kindAt K at) IN) (insideW K T f (at + 1) c 0 pre) _
+      (λ a1. told-choose (eqb (kindAt K at) IN) (amongW K T f (at + 1) c 0 pre) _
       (λ z. by-in K T good f at c pre F et b ins (row IN inRow (op-rows .1) z) sg len)
-      (λ a2. told-choose (eqb (kindAt K at) BETWEEN) (betweenW K T f (at + 1) c s 0 pre) _
+      (λ a2. told-choose (eqb (kindAt K at) BETWEEN) (rangeW K T f (at + 1) c s 0 pre) _
       (λ z. rw (es ∙ four (kindAt K at) (rw (a1, z))) (by-between K T good f at c pre F et b bet (row BETWEEN betweenRow (op-rows .2) z) sg len))
       (λ a3. told-choose (eqb (kindAt K at) LIKE-KW) (binaryW K T f (at + 1) c s (200 + getD T at 0) pre) _
       (λ z. rw (es ∙ four (kindAt K at) (rw (a1, a3, z))) (by-like K T good f at c pre F et b bin (row LIKE-KW likeRow (op-rows .3) z) sg len))

@@ -160,7 +160,7 @@ module _ (K T : List ℕ) where
         (choose (eqb (κ at) CASE) (caseW f (at + 1) (deeper c))
         (choose (eqb (κ at) CAST) (castW f (at + 1) (deeper c))
         (choose (eqb (κ at) EXISTS) (existsW f (at + 1) (deeper c))
-        (choose (ltb 0 (prefixOf (κ at))) (prefixW f at c s) (wrongAt at)))))
+        (choose (ltb 0 (prefixOf (κ at))) (signW f at c s) (wrongAt at)))))
 
     -- the operators that go on from an operand of strength `left`, of `pre` records
     pub opsW : ℕ → ℕ → Around → ℕ → ℕ → ℕ → Walked
@@ -176,8 +176,8 @@ module _ (K T : List ℕ) where
     opW (suc f) at c s pre =
         choose (ltb (κ at) NOT) (binaryW f (at + 1) c s (κ at) pre)
         (choose (eqb (κ at) NOT) (negatedW f (at + 1) c s pre)
-        (choose (eqb (κ at) IN) (insideW f (at + 1) c 0 pre)
-        (choose (eqb (κ at) BETWEEN) (betweenW f (at + 1) c s 0 pre)
+        (choose (eqb (κ at) IN) (amongW f (at + 1) c 0 pre)
+        (choose (eqb (κ at) BETWEEN) (rangeW f (at + 1) c s 0 pre)
         (choose (eqb (κ at) LIKE-KW) (binaryW f (at + 1) c s (200 + τ at) pre)
         (choose (eqb (κ at) IS) (choose (eqb (κ (at + 1)) NOT) (binaryW f (at + 2) c s 137 pre) (binaryW f (at + 1) c s 37 pre))
         (choose (eqb (κ at) COLLATE) (collateW (at + 1) pre) (done (at + 1) 4 0 (rec 40 (κ at) 1 (pre + 1) ∷ []))))))))
@@ -186,8 +186,8 @@ module _ (K T : List ℕ) where
     pub negatedW : ℕ → ℕ → Around → ℕ → ℕ → Walked
     negatedW zero at c s pre = spent
     negatedW (suc f) at c s pre =
-        choose (eqb (κ at) IN) (insideW f (at + 1) c 1 pre)
-        (choose (eqb (κ at) BETWEEN) (betweenW f (at + 1) c s 1 pre)
+        choose (eqb (κ at) IN) (amongW f (at + 1) c 1 pre)
+        (choose (eqb (κ at) BETWEEN) (rangeW f (at + 1) c s 1 pre)
         (choose (eqb (κ at) LIKE-KW) (binaryW f (at + 1) c s (300 + τ at) pre)
         (choose (eqb (κ at) NULL) (done (at + 1) 4 0 (rec 40 NOTNULL 1 (pre + 1) ∷ [])) (wrongAt at))))
 
@@ -195,9 +195,9 @@ module _ (K T : List ℕ) where
     binaryW zero at c s detail pre = spent
     binaryW (suc f) at c s detail pre = bind (exprW f at c s) (λ a x n rs. done a 0 0 (over 39 detail 2 pre rs))
 
-    pub betweenW : ℕ → ℕ → Around → ℕ → ℕ → ℕ → Walked
-    betweenW zero at c s not pre = spent
-    betweenW (suc f) at c s not pre = bind (exprW f at c s) (λ a x n rs. bind (afterW f a AND c s) (λ b x n qs. done b 0 0 (over 43 not 3 pre (rs ++ qs))))
+    pub rangeW : ℕ → ℕ → Around → ℕ → ℕ → ℕ → Walked
+    rangeW zero at c s not pre = spent
+    rangeW (suc f) at c s not pre = bind (exprW f at c s) (λ a x n rs. bind (afterW f a AND c s) (λ b x n qs. done b 0 0 (over 43 not 3 pre (rs ++ qs))))
 
     -- a word, and an expression
     pub afterW : ℕ → ℕ → ℕ → Around → ℕ → Walked
@@ -205,9 +205,9 @@ module _ (K T : List ℕ) where
     afterW (suc f) at word c s = choose (eqb (κ at) word) (exprW f (at + 1) c s) (wrongAt at)
 
     -- after IN
-    pub insideW : ℕ → ℕ → Around → ℕ → ℕ → Walked
-    insideW zero at c not pre = spent
-    insideW (suc f) at c not pre = choose (eqb (κ at) LP)
+    pub amongW : ℕ → ℕ → Around → ℕ → ℕ → Walked
+    amongW zero at c not pre = spent
+    amongW (suc f) at c not pre = choose (eqb (κ at) LP)
         (choose (both (leb SELECT (κ (at + 1))) (leb (κ (at + 1)) VALUES))
         (bind (queryW f (at + 1) c) (λ a x n rs. endedW a 42 not pre rs))
         (choose (eqb (κ (at + 1)) RP) (endedW (at + 1) 41 not pre (rec 4 0 0 1 ∷ []))
@@ -219,9 +219,9 @@ module _ (K T : List ℕ) where
     listW zero at c n = spent
     listW (suc f) at c n = bind (exprW f at c 1) (λ a x m rs. choose (eqb (κ a) COMMA) (onto rs (listW f (a + 1) c (n + 1))) (done a 0 (n + 1) rs))
 
-    pub prefixW : ℕ → ℕ → Around → ℕ → Walked
-    prefixW zero at c s = spent
-    prefixW (suc f) at c s = choose (ltb (prefixOf (κ at)) s) (wrongAt at)
+    pub signW : ℕ → ℕ → Around → ℕ → Walked
+    signW zero at c s = spent
+    signW (suc f) at c s = choose (ltb (prefixOf (κ at)) s) (wrongAt at)
         (bind (exprW f (at + 1) (deeper c) (prefixOf (κ at))) (λ a x n rs. done a (prefixOf (κ at)) 0 (over 38 (κ at) 1 0 rs)))
 
     -- after LP of a call
@@ -248,7 +248,7 @@ module _ (K T : List ℕ) where
 
     pub caseW : ℕ → ℕ → Around → Walked
     caseW zero at c = spent
-    caseW (suc f) at c = bind (casedW f at c) (λ a x n rs. bind (whensW f a c 0) (λ b x m qs. bind (clauseW f b ELSE c) (λ d x n ps.
+    caseW (suc f) at c = bind (casedW f at c) (λ a x n rs. bind (whenW f a c 0) (λ b x m qs. bind (clauseW f b ELSE c) (λ d x n ps.
         choose (eqb (κ d) END) (done (d + 1) 12 0 (over 36 0 (m + 2) 0 (rs ++ (qs ++ ps)))) (wrongAt d))))
 
     pub casedW : ℕ → ℕ → Around → Walked
@@ -256,10 +256,10 @@ module _ (K T : List ℕ) where
     casedW (suc f) at c = choose (eqb (κ at) WHEN) (done at 0 0 (missing ∷ [])) (exprW f at c 1)
 
     -- WHEN expression THEN expression: n expressions before
-    pub whensW : ℕ → ℕ → Around → ℕ → Walked
-    whensW zero at c n = spent
-    whensW (suc f) at c n = bind (afterW f at WHEN c 1) (λ a x m rs. bind (afterW f a THEN c 1) (λ b x m qs.
-        choose (eqb (κ b) WHEN) (onto (rs ++ qs) (whensW f b c (n + 2))) (done b 0 (n + 2) (rs ++ qs))))
+    pub whenW : ℕ → ℕ → Around → ℕ → Walked
+    whenW zero at c n = spent
+    whenW (suc f) at c n = bind (afterW f at WHEN c 1) (λ a x m rs. bind (afterW f a THEN c 1) (λ b x m qs.
+        choose (eqb (κ b) WHEN) (onto (rs ++ qs) (whenW f b c (n + 2))) (done b 0 (n + 2) (rs ++ qs))))
 
     pub castW : ℕ → ℕ → Around → Walked
     castW zero at c = spent
@@ -278,7 +278,7 @@ module _ (K T : List ℕ) where
     -- ORDER BY and LIMIT
     pub tailW : ℕ → ℕ → Around → Walked
     tailW zero at c = spent
-    tailW (suc f) at c = choose (eqb (κ at) ORDER) (bind (orderW f (at + 1) c) (λ a x n rs. onto rs (limitW f a c))) (onto (missing ∷ []) (limitW f at c))
+    tailW (suc f) at c = choose (eqb (κ at) ORDER) (bind (sortW f (at + 1) c) (λ a x n rs. onto rs (limitW f a c))) (onto (missing ∷ []) (limitW f at c))
 
     -- rows of VALUES: n before them, of this width (0: no matter)
     pub rowsW : ℕ → ℕ → Around → ℕ → ℕ → Walked
@@ -344,9 +344,9 @@ module _ (K T : List ℕ) where
     sourceW (suc f) at c = choose (eqb (κ at) LP) (bind (queryW f (at + 1) c) (λ a x n rs. lentW a rs)) (tableW at)
 
     -- after ORDER
-    pub orderW : ℕ → ℕ → Around → Walked
-    orderW zero at c = spent
-    orderW (suc f) at c = choose (eqb (κ at) BY) (bind (termsW f (at + 1) c 0) (λ a x n rs. done a 0 0 (over 4 0 n 0 rs))) (wrongAt at)
+    pub sortW : ℕ → ℕ → Around → Walked
+    sortW zero at c = spent
+    sortW (suc f) at c = choose (eqb (κ at) BY) (bind (termsW f (at + 1) c 0) (λ a x n rs. done a 0 0 (over 4 0 n 0 rs))) (wrongAt at)
 
     -- sort terms: n before them
     pub termsW : ℕ → ℕ → Around → ℕ → Walked

@@ -18,7 +18,7 @@ use Rattle.grammar.specs.Limits.{isQuery, below}
 use Rattle.grammar.specs.Nodes.{count, beside, records}
 use Rattle.grammar.specs.Reading.{empty, side, value}
 use Rattle.descent.proofs.Places.{kindAt, tokAt, OpenRow}
-use Rattle.descent.proofs.Walk.{exprW, afterW, whensW}
+use Rattle.descent.proofs.Walk.{exprW, afterW, whenW}
 use Rattle.descent.proofs.Grown.{recs}
 use Rattle.descent.proofs.Steps.{nt-got, nt-refused}
 use Rattle.descent.proofs.ClassFacts.{firsts-Whens, Whens-at-WHEN, Whens-may}
@@ -62,7 +62,7 @@ module _ (K T : List ℕ) (good : Good K T) (f : ℕ) where
       (λ b s m qs q. let cp = count-pair x (tokAt K T at) (p .0) (tokAt K T a) (q .0) (p .2 .single) (q .2 .single) in let rp = recs-pair x (tokAt K T at) (p .0) (tokAt K T a) (q .0) in
       told-choose (eqb (kindAt K b) WHEN) _ _
       (λ z. let w = eqb-eq (kindAt K b) WHEN z in let on = first ∙ q .1 ∙ list-on K T good whens-list c nextWhen x (tokAt K T at) _ b w in
-      told-onto (rs ++ qs) (whensW K T f b c (n + 2)) (next b c (n + 2) (pair x (tokAt K T at) (p .0) (tokAt K T a) (q .0)) w)
+      told-onto (rs ++ qs) (whenW K T f b c (n + 2)) (next b c (n + 2) (pair x (tokAt K T at) (p .0) (tokAt K T a) (q .0)) w)
       (λ d s m ps g. (g .0, on ∙ g .1, omega (arith, g .2, cp), g .3 ∙ ap (λ z. z ++ ps) rp ∙ append-assoc (recs (value x)) _ ps ∙ rw (p .3, q .3)))
       (λ m p g. on ∙ g))
       (λ z. told-done b 0 (n + 2) (rs ++ qs) (
@@ -86,7 +86,7 @@ module _ (K T : List ℕ) (good : Good K T) (f : ℕ) where
       (λ a s m rs p. told-bind (afterW K T f a THEN c 1) _ (after a THEN c 1 F (nt (any Whens?) ∷ is) _ (omega arith) (omega arith) (omega arith) e j)
       (λ b s m qs q. told-choose (eqb (kindAt K b) WHEN) _ _
       (λ z. let w = eqb-eq (kindAt K b) WHEN z in let on = list-begins K T good whens-list c b w in
-      told-onto (rs ++ qs) (whensW K T f b c (n + 2)) (next b c (n + 2) nil w)
+      told-onto (rs ++ qs) (whenW K T f b c (n + 2)) (next b c (n + 2) nil w)
       (λ d s m ps g. (
         tokAt K T at,
         p .0,

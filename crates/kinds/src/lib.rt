@@ -3,7 +3,7 @@
 ghost use mathlib.Core.Path.{_≡_};
 ghost use Rattle.kinds.specs.Classes.{isName, isBareAlias, isLiteral, headsCall, beginsExpr, readsText, isBinary, nameCode, literalCode};
 ghost use Rattle.kinds.specs.Fit.{fits};
-ghost use Rattle.kinds.specs.Strength.{strengthOf, prefixOf};
+ghost use Rattle.kinds.specs.Strength.{strengthTable, entryOf, prefixOf};
 
 pub const ID: u32 = 1;
 
@@ -168,7 +168,7 @@ pub fn fit(kind: u32, text: u32) -> bool
 }
 
 // The strength of each kind after an operand, from ID on; 0 where the kind goes on with no expression.
-const STRENGTHS: [u8; KINDS as usize] = [
+const STRENGTHS: [u32; KINDS as usize] = [
     0, // ID
     0, // KWID
     0, // STRING
@@ -242,14 +242,25 @@ const STRENGTHS: [u8; KINDS as usize] = [
     0, // OFFSET
 ];
 
-// How tightly a kind binds that goes on after an operand; 0 for any that doesn't.
-pub fn strength(kind: u32) -> u32
-    ensures { λ r. ⌜ r ≡ strengthOf kind ⌝ }
+// The table of strengths, for `strength`. A constant array is laid on the stack of whoever reads it, so a reader lays it once and lends it.
+pub fn strengths() -> [u32; KINDS as usize]
+    ensures { λ r. ⌜ r ≡ strengthTable ⌝ }
 {
-    match kind {
-        ID..=KINDS => STRENGTHS[(kind - 1) as usize] as u32,
-        _ => 0,
+    STRENGTHS
+}
+
+// By that table, how tightly a kind binds that goes on after an operand; 0 for any that doesn't.
+pub fn strength(table: &[u32], kind: u32) -> u32
+    ensures { λ r. ⌜ r ≡ entryOf (now (table .entry)) kind ⌝ }
+{
+    let i = kind as usize;
+    if i == 0 {
+        return 0;
     }
+    if i > table.len() {
+        return 0;
+    }
+    table[i - 1]
 }
 
 // How tightly a kind binds before an operand; 0 for any that can't stand there.

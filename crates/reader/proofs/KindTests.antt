@@ -20,7 +20,7 @@ use Rattle.grammar.specs.Nodes.{Rec}
 use Rattle.grammar.specs.Reading.{choose}
 use Rattle.descent.proofs.Places.{wrong}
 use Rattle.descent.proofs.Fill.{Filled}
-use Rattle.descent.proofs.Walk.{Walked, done, stop, bind, onto, over, missing, deeper, tooDeepW, joinW, calledW, exprW, opW, opsW, listW, prefixW, partsW, tailW, selectW, selectedW}
+use Rattle.descent.proofs.Walk.{Walked, done, stop, bind, onto, over, missing, deeper, tooDeepW, joinW, calledW, exprW, opW, opsW, listW, signW, partsW, tailW, selectW, selectedW}
 use Rattle.reader.specs.Bounds.{Lists, kindsOf, textsOf, strengthAsked, Seen}
 use Rattle.reader.specs.Laying.{Laid, TooDeep, isBare, beginsJoin}
 use Rattle.reader.specs.declared.Step.{Step}
@@ -198,14 +198,14 @@ no-sign k d h = rw (
 )
 
 -- the walk of such an operator, by its kind and strength
-abbrev pub signW : List ℕ → List ℕ → ℕ → ℕ → Around → ℕ → ℕ → ℕ → Walked
-signW K T f at c s k q = choose (ltb q s) (stop (wrong k) at) (bind (exprW K T f (at + 1) (deeper c) q) (λ a x n rs. done a q 0 (over 38 k 1 0 rs)))
+abbrev pub signedW : List ℕ → List ℕ → ℕ → ℕ → Around → ℕ → ℕ → ℕ → Walked
+signedW K T f at c s k q = choose (ltb q s) (stop (wrong k) at) (bind (exprW K T f (at + 1) (deeper c) q) (λ a x n rs. done a q 0 (over 38 k 1 0 rs)))
 
 pub prefix-walk : {made : ℕ} {N N' : List ℕ} {r : Step} {io : Lists} {at kind q : ℕ} (f : ℕ) (c : Around) (s : ℕ) → Seen io at kind → q ≡ prefixOf kind
-    → Laid made N N' (signW (kindsOf io) (textsOf io) f at c s kind q) r → Laid made N N' (prefixW (kindsOf io) (textsOf io) (suc f) at c s) r
+    → Laid made N N' (signedW (kindsOf io) (textsOf io) f at c s kind q) r → Laid made N N' (signW (kindsOf io) (textsOf io) (suc f) at c s) r
 unfolding exprW
 prefix-walk {io = io} {at = at} {kind = kind} {q = q} f c s e p l =
-    by-walk (ap (λ k. signW (kindsOf io) (textsOf io) f at c s k (prefixOf k)) (sym (e .is)) ∙ ap (λ z. signW (kindsOf io) (textsOf io) f at c s kind z) (sym p)) l
+    by-walk (ap (λ k. signedW (kindsOf io) (textsOf io) f at c s k (prefixOf k)) (sym (e .is)) ∙ ap (λ z. signedW (kindsOf io) (textsOf io) f at c s kind z) (sym p)) l
 
 -- ── parts that are absent ──
 module _ (K T : List ℕ) where

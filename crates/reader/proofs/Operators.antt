@@ -12,7 +12,7 @@ use Rattle.kinds.specs.Kinds.{NOTNULL}
 use Rattle.grammar.specs.Limits.{Around}
 use Rattle.grammar.specs.Nodes.{rec}
 use Rattle.descent.proofs.Places.{wrong}
-use Rattle.descent.proofs.Walk.{Walked, done, stop, exprW, opW, negatedW, insideW, betweenW, binaryW, collateW}
+use Rattle.descent.proofs.Walk.{Walked, done, stop, exprW, opW, negatedW, amongW, rangeW, binaryW, collateW}
 use Rattle.reader.specs.Bounds.{Lists, kindsOf, textsOf, Seen}
 use Rattle.reader.specs.Laying.{Laid, Later, one, notNullW}
 use Rattle.reader.specs.declared.Step.{Step}
@@ -50,17 +50,17 @@ other at h (inl (e, n, v)) o i b k = absurd (o n)
 other at h (inr (d, n, v)) o i b k = (d, n, λ e. i (v ∙ e), λ e. b (v ∙ e), λ e. k (v ∙ e))
 
 module _ {io : Lists} {at kind not word made : ℕ} {N N' : List ℕ} {r : Step} (a : Around) (s pre : ℕ) (seen : Seen io at kind) where
-  pub op-inside : 36 ≤ kind → Way io at kind not word → word ≡ 38 → Later (λ f. Laid made N N' (insideW (kindsOf io) (textsOf io) f (at + not + 1) a not pre) r) → Later (λ f. Laid made N N' (opW (kindsOf io) (textsOf io) f at a s pre) r)
+  pub op-inside : 36 ≤ kind → Way io at kind not word → word ≡ 38 → Later (λ f. Laid made N N' (amongW (kindsOf io) (textsOf io) f (at + not + 1) a not pre) r) → Later (λ f. Laid made N N' (opW (kindsOf io) (textsOf io) f at a s pre) r)
   unfolding exprW
-  op-inside h (inl (e, n, v)) w l = negated a s pre seen e (next (with-not at (λ f p z. insideW (kindsOf io) (textsOf io) f p a z pre) n l) (λ f g. took _ _ _ (is v w) g))
+  op-inside h (inl (e, n, v)) w l = negated a s pre seen e (next (with-not at (λ f p z. amongW (kindsOf io) (textsOf io) f p a z pre) n l) (λ f g. took _ _ _ (is v w) g))
   op-inside h (inr (d, n, v)) w l =
-      next (without at (λ f p z. insideW (kindsOf io) (textsOf io) f p a z pre) n l) (λ f g. left _ _ _ (by-kind (λ k. ltb k 36) seen (le-ltb kind 36 h)) (left _ _ _ (isn't seen d) (took _ _ _ (is seen (sym v ∙ w)) g)))
+      next (without at (λ f p z. amongW (kindsOf io) (textsOf io) f p a z pre) n l) (λ f g. left _ _ _ (by-kind (λ k. ltb k 36) seen (le-ltb kind 36 h)) (left _ _ _ (isn't seen d) (took _ _ _ (is seen (sym v ∙ w)) g)))
 
-  pub op-between : 36 ≤ kind → Way io at kind not word → word ≡ 39 → Later (λ f. Laid made N N' (betweenW (kindsOf io) (textsOf io) f (at + not + 1) a s not pre) r) → Later (λ f. Laid made N N' (opW (kindsOf io) (textsOf io) f at a s pre) r)
+  pub op-between : 36 ≤ kind → Way io at kind not word → word ≡ 39 → Later (λ f. Laid made N N' (rangeW (kindsOf io) (textsOf io) f (at + not + 1) a s not pre) r) → Later (λ f. Laid made N N' (opW (kindsOf io) (textsOf io) f at a s pre) r)
   unfolding exprW
-  op-between h (inl (e, n, v)) w l = negated a s pre seen e (next (with-not at (λ f p z. betweenW (kindsOf io) (textsOf io) f p a s z pre) n l) (λ f g. left _ _ _ (differs _ v w refl) (took _ _ _ (is v w) g)))
+  op-between h (inl (e, n, v)) w l = negated a s pre seen e (next (with-not at (λ f p z. rangeW (kindsOf io) (textsOf io) f p a s z pre) n l) (λ f g. left _ _ _ (differs _ v w refl) (took _ _ _ (is v w) g)))
   op-between h (inr (d, n, v)) w l =
-      next (without at (λ f p z. betweenW (kindsOf io) (textsOf io) f p a s z pre) n l) (λ f g. left _ _ _ (by-kind (λ k. ltb k 36) seen (le-ltb kind 36 h)) (left _ _ _ (isn't seen d) (left _ _ _ (differs _ seen (sym v ∙ w) refl) (took _ _ _ (is seen (sym v ∙ w)) g))))
+      next (without at (λ f p z. rangeW (kindsOf io) (textsOf io) f p a s z pre) n l) (λ f g. left _ _ _ (by-kind (λ k. ltb k 36) seen (le-ltb kind 36 h)) (left _ _ _ (isn't seen d) (left _ _ _ (differs _ seen (sym v ∙ w) refl) (took _ _ _ (is seen (sym v ∙ w)) g))))
 
   pub op-like : 36 ≤ kind → Way io at kind not word → word ≡ 40 → (text : ℕ) → text ≡ getD (textsOf io) (at + not) 0 → Later (λ f. Laid made N N' (binaryW (kindsOf io) (textsOf io) f (at + not + 1) a s (200 + 100 * not + text) pre) r) → Later (λ f. Laid made N N' (opW (kindsOf io) (textsOf io) f at a s pre) r)
   unfolding exprW

@@ -12,7 +12,7 @@ use lib.ListN.{length, getD}
 use borrow.Author.Tests.{eq-eqb, eqb-true, ltb-false}
 use denote.Ref.{RefT, now}
 use mir.Val.{boolByte}
-use Rattle.reader.specs.Bounds.{Lists, kindsOf, textsOf, greatestLike, tokens, texts, likes, Seen}
+use Rattle.reader.specs.Bounds.{Lists, kindsOf, textsOf, strengthsOf, greatestLike, tokens, texts, likes, Seen}
 
 kinds-is : (io : Lists) (d : RefT (List ℕ)) → d .now ≡ [] → kindsOf io ≡ (getD io 0 d) .now
 kinds-is [] d e = sym e
@@ -22,6 +22,12 @@ texts-is : (io : Lists) (d : RefT (List ℕ)) → d .now ≡ [] → textsOf io �
 texts-is [] d e = sym e
 texts-is (x ∷ []) d e = sym e
 texts-is (x ∷ y ∷ io) d e = refl
+
+pub strengths-is : (io : Lists) (d : RefT (List ℕ)) → d .now ≡ [] → (getD io 2 d) .now ≡ strengthsOf io
+strengths-is [] d e = e
+strengths-is (x ∷ []) d e = e
+strengths-is (x ∷ y ∷ []) d e = e
+strengths-is (x ∷ y ∷ z ∷ io) d e = refl
 
 -- what is read at a place of the kinds
 pub seen : (io : Lists) (d : RefT (List ℕ)) (at v : ℕ) → d .now ≡ [] → v ≡ getD ((getD io 0 d) .now) at 0

@@ -7,11 +7,12 @@ use lib.ListN.{length, getD}
 use lib.Dec.{eqb}
 use mathlib.Core.Bool.{cond}
 use denote.Ref.{RefT, now}
+use Rattle.kinds.specs.Strength.{strengthTable}
 use Rattle.reader.specs.declared.Cursor.{Cursor}
 use Rattle.reader.specs.declared.Step.{Step}
 use Rattle.reader.specs.declared.Step.the-variants as step
 
--- what the reader is lent: the kinds and the texts of the tokens
+-- what the reader is lent: the kinds and the texts of the tokens, and the table of strengths
 abbrev pub Lists : Type 0
 Lists = List (RefT (List ℕ))
 
@@ -20,6 +21,16 @@ kindsOf io = getD (map now io) 0 []
 
 abbrev pub textsOf : Lists → List ℕ
 textsOf io = getD (map now io) 1 []
+
+abbrev pub strengthsOf : Lists → List ℕ
+strengthsOf io = getD (map now io) 2 []
+
+-- at how many places two lists differ
+unfoldable pub apart : List ℕ → List ℕ → ℕ
+apart [] [] = 0
+apart [] (y ∷ u) = 1
+apart (x ∷ t) [] = 1
+apart (x ∷ t) (y ∷ u) = cond (eqb x y) (apart t u) (1 + apart t u)
 
 -- the greatest text number of a LIKE_KW, 0 where there is none
 abbrev pub greatestLike : List ℕ → List ℕ → ℕ
@@ -36,6 +47,10 @@ texts io = length (textsOf io)
 
 unfoldable pub likes : Lists → ℕ
 likes io = greatestLike (kindsOf io) (textsOf io)
+
+-- how many entries of the lent table are not 01's
+unfoldable pub unruled : Lists → ℕ
+unruled io = apart (strengthsOf io) strengthTable
 
 -- what is asked is one number, 512 * level + 16 * queries open + strength asked
 unfoldable pub queriesOf : ℕ → ℕ
@@ -55,6 +70,7 @@ pub record Ready (slack : ℕ) (io : Lists) (at made : ℕ) : Type 0 where
   pub short : tokens io ≤ 4096
   pub paired : texts io ≡ tokens io
   pub liked : likes io ≤ 3
+  pub ruled : unruled io ≡ 0
   pub inside : at ≤ tokens io
   pub room : made + slack ≤ 8 * (at + 1)
 
@@ -112,6 +128,9 @@ pub record NullBefore (next made word : ℕ) (r : Step) : Type 0 where
 
 abbrev pub gotOf : ℕ → ℕ → ℕ → ℕ → Step
 gotOf said count at made = step.Got said count (record { at = at; made = made })
+
+abbrev pub refusalOf : ℕ → ℕ → Step
+refusalOf n at = step.Refused n at
 
 -- the measure of the readers, which call one another: tokens left, then the rank of the reader
 abbrev pub rank : ℕ → Lists → ℕ → ℕ

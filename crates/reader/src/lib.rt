@@ -11,12 +11,13 @@ ghost use Rattle.kinds.specs.Fit.{fits};
 ghost use Rattle.grammar.specs.Nodes.{Rec};
 ghost use Rattle.grammar.specs.Reading.{choose};
 ghost use Rattle.descent.proofs.Fill.{Filled};
-ghost use Rattle.descent.proofs.Walk.{done, bind, deeper, nameRec, nameW, closeW, dottedW, dotsW, calledW, collateW, aliasW, qualifiedW, indexW, tableW, lentW, nullsW, wayW, joinedW, usingW, endedW, exprW, leafW, operandW, opsW, opW, binaryW, betweenW, afterW, insideW, listW, prefixW, callW, parenW, subW, existsW, caseW, casedW, whensW, castW, queryW, bodyW, tailW, rowW, selectW, partsW, clauseW, groupW, colsW, colW, fromW, joinsW, onW, sourceW, orderW, limitW, commandW};
+ghost use Rattle.descent.proofs.Walk.{done, bind, deeper, nameRec, nameW, closeW, dottedW, dotsW, calledW, collateW, aliasW, qualifiedW, indexW, tableW, lentW, nullsW, wayW, joinedW, usingW, endedW, exprW, leafW, operandW, opsW, opW, binaryW, rangeW, afterW, amongW, listW, signW, callW, parenW, subW, existsW, caseW, casedW, whenW, castW, queryW, bodyW, tailW, rowW, selectW, partsW, clauseW, groupW, colsW, colW, fromW, joinsW, onW, sourceW, sortW, limitW, commandW};
 ghost use Rattle.reader.specs.Laying.{Laid, Lays, Later, Passes, Does, Misfit, TooDeep, one, absences, nameAt, literalText, notNullW, allRowsW, isBare, beginsJoin, FitLists, UnfitAt};
 ghost use Rattle.reader.specs.Turning.{swappedAt, Turned};
-ghost use Rattle.reader.specs.Bounds.{tokens, kindsOf, textsOf, greatestLike, queriesOf, strengthAsked, Asks, Ready, Seen, Within, Refuses, OneOn, Opens, NullBefore, gotOf};
+ghost use Rattle.reader.specs.Bounds.{tokens, kindsOf, textsOf, greatestLike, queriesOf, strengthAsked, Asks, Ready, Seen, Within, Refuses, OneOn, Opens, NullBefore, gotOf, refusalOf, unruled};
 ghost use Rattle.reader.specs.Answers.{number, place};
-ghost use Rattle.grammar.specs.Promise.{Reads};
+ghost use Rattle.grammar.specs.Promise.{Lent, Reads};
+ghost use Rattle.kinds.specs.Strength.{strengthOf, strengthTable};
 use kinds::ALL;
 use kinds::AND;
 use kinds::AS;
@@ -84,8 +85,8 @@ pub struct Cursor {
 // Got: what a part says (the strength of an expression, the mode of an alias, the detail of a join), how many
 // members it has, and where it ends.
 pub enum Step {
-    Got(u8, u16, Cursor),
     Refused(u8, u16),
+    Got(u8, u16, Cursor),
 }
 
 pub enum Answer {
@@ -134,8 +135,17 @@ fn queries(ask: u32) -> u32
     ask % LEVEL / QUERY
 }
 
+// By the table that is lent with the lists.
+fn strength(io: &[&[u32]; 3], kind: u32) -> u32
+    requires { ⌜ unruled (now io) ≡ 0 ⌝ }
+    ensures { λ r. ⌜ r ≡ strengthOf kind ⌝ }
+{
+    let table = io[2];
+    kinds::strength(table, kind)
+}
+
 // The kind at a place; 0 at the end of the list.
-fn peek(io: &[&[u32]; 2], at: u32) -> u32
+fn peek(io: &[&[u32]; 3], at: u32) -> u32
     ensures { λ r. ⌜ Seen (now (io .entry)) at r ⌝ }
 {
     let k = io[0];
@@ -143,7 +153,7 @@ fn peek(io: &[&[u32]; 2], at: u32) -> u32
     if i < k.len() { k[i] } else { 0 }
 }
 
-fn text(io: &[&[u32]; 2], at: u32) -> u32
+fn text(io: &[&[u32]; 3], at: u32) -> u32
     requires { ⌜ Ready 0 (now io) at 0 × (at < tokens (now io)) ⌝ }
     ensures { λ r. ⌜ r ≡ getD (textsOf (now (io .entry))) at 0 ⌝ }
 {
@@ -152,15 +162,25 @@ fn text(io: &[&[u32]; 2], at: u32) -> u32
     t[i]
 }
 
+// A refusal, written over a whole answer: the compiler would carry the stale rest of an answer along.
+fn refused(n: u8, at: u32) -> Step
+    requires { ⌜ at < 65536 ⌝ }
+    ensures { λ r. ⌜ r ≡ refusalOf n at ⌝ }
+{
+    let mut r = got(0, 0, 0);
+    r = Step::Refused(n, at as u16);
+    r
+}
+
 // The token of this kind can't stand here: 3, or 4 at the end of the list.
 fn wrong(kind: u32, at: u32) -> Step
     requires { ⌜ at < 65536 ⌝ }
     ensures { λ r. ⌜ Refuses at r × Misfit kind at r ⌝ }
 {
     if kind == 0 {
-        return Step::Refused(4, at as u16);
+        return refused(4, at);
     }
-    Step::Refused(3, at as u16)
+    refused(3, at)
 }
 
 fn got(at: u32, made: u32, said: u8) -> Step
@@ -230,14 +250,14 @@ fn missing(nodes: &mut [u32], made: u32, n: u32) -> u32
 }
 
 // A name, of which the kind is known.
-fn named(io: &[&[u32]; 2], nodes: &mut [u32], at: u32, made: u32, kind: u32) -> u32
+fn named(io: &[&[u32]; 3], nodes: &mut [u32], at: u32, made: u32, kind: u32) -> u32
     requires { ⌜ Ready 0 (now io) at made × (at < tokens (now io)) ⌝ }
     ensures { λ r. ⌜ (r ≡ made + 1) × (kind ≡ getD (kindsOf (now (io .entry))) at 0 → Filled (now (nodes .entry)) (now (nodes .exit)) made r (nameAt (now (io .entry)) at)) ⌝ }
 {
     emit(nodes, made, kinds::name_code(kind), text(io, at), 0, 1)
 }
 
-fn name(io: &[&[u32]; 2], nodes: &mut [u32], at: u32, made: u32) -> Step
+fn name(io: &[&[u32]; 3], nodes: &mut [u32], at: u32, made: u32) -> Step
     requires { ⌜ Ready 0 (now io) at made ⌝ }
     ensures { λ r. ⌜ Within 1 0 (now (io .entry)) at made r × OneOn at r × Lays made (now (nodes .entry)) (now (nodes .exit)) (now (io .entry)) (λ K T. nameW K T at) r ⌝ }
 {
@@ -251,7 +271,7 @@ fn name(io: &[&[u32]; 2], nodes: &mut [u32], at: u32, made: u32) -> Step
 
 // Expects RP, and closes over n children with a record.
 fn close(
-    io: &[&[u32]; 2],
+    io: &[&[u32]; 3],
     nodes: &mut [u32],
     at: u32,
     made: u32,
@@ -272,7 +292,7 @@ fn close(
 
 // ---- expressions
 
-fn literal_text(io: &[&[u32]; 2], at: u32, kind: u32) -> u32
+fn literal_text(io: &[&[u32]; 3], at: u32, kind: u32) -> u32
     requires { ⌜ Ready 0 (now io) at 0 × (at < tokens (now io)) ⌝ }
     ensures { λ r. ⌜ r ≡ literalText (now (io .entry)) at kind ⌝ }
 {
@@ -282,8 +302,16 @@ fn literal_text(io: &[&[u32]; 2], at: u32, kind: u32) -> u32
     text(io, at)
 }
 
+// Through a function of its own, which is taken into each caller: so the places of its answer are shared there, and frames are small.
+fn expr(io: &[&[u32]; 3], nodes: &mut [u32], at: u32, made: u32, ask: u32) -> Step
+    requires { ⌜ Ready 0 (now io) at made × Asks 66 ask ⌝ }
+    ensures { λ r. ⌜ Within 1 0 (now (io .entry)) at made r × ((s : ℕ) → Does s ask made (now (nodes .entry)) (now (nodes .exit)) (now (io .entry)) (λ K T f c. exprW K T f at c s) r) ⌝ }
+{
+    ex(io, nodes, at, made, ask)
+}
+
 // An operand, and the operators that go on from it.
-fn expr(io: &[&[u32]; 2], nodes: &mut [u32], at: u32, made: u32, ask: u32) -> Step
+fn ex(io: &[&[u32]; 3], nodes: &mut [u32], at: u32, made: u32, ask: u32) -> Step
     requires { ⌜ Ready 0 (now io) at made × Asks 66 ask ⌝ }
     ensures { λ r. ⌜ Within 1 0 (now (io .entry)) at made r × ((s : ℕ) → Does s ask made (now (nodes .entry)) (now (nodes .exit)) (now (io .entry)) (λ K T f c. exprW K T f at c s) r) ⌝ }
 {
@@ -301,7 +329,7 @@ fn expr(io: &[&[u32]; 2], nodes: &mut [u32], at: u32, made: u32, ask: u32) -> St
     ops(io, nodes, d.at, d.made, made, s_d as u32, ask)
 }
 
-fn leaf(io: &[&[u32]; 2], nodes: &mut [u32], at: u32, made: u32, kind: u32, ask: u32) -> Step
+fn leaf(io: &[&[u32]; 3], nodes: &mut [u32], at: u32, made: u32, kind: u32, ask: u32) -> Step
     requires { ⌜ Ready 0 (now io) at made × Asks 65 ask × (at < tokens (now io)) × Seen (now io) at kind × (0 < kind) × (kind ≤ 11) ⌝ }
     ensures { λ r. ⌜ Within 1 0 (now (io .entry)) at made r × ((s : ℕ) → Does s ask made (now (nodes .entry)) (now (nodes .exit)) (now (io .entry)) (λ K T f c. leafW K T f at c s) r) ⌝ }
 {
@@ -320,7 +348,7 @@ fn leaf(io: &[&[u32]; 2], nodes: &mut [u32], at: u32, made: u32, kind: u32, ask:
     dotted(io, nodes, at + 1, m, next, asked(ask))
 }
 
-fn operand(io: &[&[u32]; 2], nodes: &mut [u32], at: u32, made: u32, kind: u32, ask: u32) -> Step
+fn operand(io: &[&[u32]; 3], nodes: &mut [u32], at: u32, made: u32, kind: u32, ask: u32) -> Step
     requires { ⌜ Ready 0 (now io) at made × Asks 65 ask × Seen (now io) at kind ⌝ }
     ensures { λ r. ⌜ Within 1 0 (now (io .entry)) at made r × ((s : ℕ) → Does s ask made (now (nodes .entry)) (now (nodes .exit)) (now (io .entry)) (λ K T f c. operandW K T f at c s) r) ⌝ }
 {
@@ -329,7 +357,7 @@ fn operand(io: &[&[u32]; 2], nodes: &mut [u32], at: u32, made: u32, kind: u32, a
         CASE => case(io, nodes, at + 1, made, deeper(ask, 1)),
         CAST => cast(io, nodes, at + 1, made, deeper(ask, 1)),
         EXISTS => exists(io, nodes, at + 1, made, deeper(ask, 1)),
-        NOT | PLUS | MINUS | BITNOT => prefix(io, nodes, at, made, kind, ask),
+        NOT | PLUS | MINUS | BITNOT => sign(io, nodes, at, made, kind, ask),
         _ => wrong(kind, at),
     }
 }
@@ -352,7 +380,7 @@ fn too_deep(kind: u32, at: u32, ask: u32) -> Step
 
 // The operators that go on from an operand of strength `first`.
 fn ops(
-    io: &[&[u32]; 2],
+    io: &[&[u32]; 3],
     nodes: &mut [u32],
     from: u32,
     start: u32,
@@ -369,7 +397,7 @@ fn ops(
     let mut left = first;
     loop {
         let kind = peek(io, at);
-        let k = kinds::strength(kind);
+        let k = strength(io, kind);
         if k == 0 {
             break;
         }
@@ -391,7 +419,7 @@ fn ops(
 }
 
 fn op(
-    io: &[&[u32]; 2],
+    io: &[&[u32]; 3],
     nodes: &mut [u32],
     at: u32,
     made: u32,
@@ -409,8 +437,8 @@ fn op(
     let word = if kind == NOT { peek(io, at + 1) } else { kind };
     let next = at + not + 1;
     match word {
-        IN => inside(io, nodes, next, made, base, not, ask),
-        BETWEEN => between(io, nodes, next, made, base, not, ask),
+        IN => among(io, nodes, next, made, base, not, ask),
+        BETWEEN => range(io, nodes, next, made, base, not, ask),
         LIKE_KW => binary(
             io,
             nodes,
@@ -451,7 +479,7 @@ fn notnull(nodes: &mut [u32], next: u32, made: u32, base: u32, word: u32) -> Ste
 }
 
 fn binary(
-    io: &[&[u32]; 2],
+    io: &[&[u32]; 3],
     nodes: &mut [u32],
     at: u32,
     made: u32,
@@ -470,7 +498,7 @@ fn binary(
     got(d.at, m, 0)
 }
 
-fn collate(io: &[&[u32]; 2], nodes: &mut [u32], at: u32, made: u32, base: u32) -> Step
+fn collate(io: &[&[u32]; 3], nodes: &mut [u32], at: u32, made: u32, base: u32) -> Step
     requires { ⌜ Ready 1 (now io) at made × (base ≤ made) ⌝ }
     ensures { λ r. ⌜ Within 1 1 (now (io .entry)) at made r × ((pre : ℕ) → made ≡ base + pre → Lays made (now (nodes .entry)) (now (nodes .exit)) (now (io .entry)) (λ K T. collateW K T at pre) r) ⌝ }
 {
@@ -482,8 +510,8 @@ fn collate(io: &[&[u32]; 2], nodes: &mut [u32], at: u32, made: u32, base: u32) -
     got(d.at, m, 0)
 }
 
-fn between(
-    io: &[&[u32]; 2],
+fn range(
+    io: &[&[u32]; 3],
     nodes: &mut [u32],
     at: u32,
     made: u32,
@@ -492,7 +520,7 @@ fn between(
     ask: u32,
 ) -> Step
     requires { ⌜ Ready 1 (now io) at made × Asks 66 ask × (base ≤ made) ⌝ }
-    ensures { λ r. ⌜ Within 1 1 (now (io .entry)) at made r × ((s pre : ℕ) → made ≡ base + pre → Does s ask made (now (nodes .entry)) (now (nodes .exit)) (now (io .entry)) (λ K T f c. betweenW K T f at c s not pre) r) ⌝ }
+    ensures { λ r. ⌜ Within 1 1 (now (io .entry)) at made r × ((s pre : ℕ) → made ≡ base + pre → Does s ask made (now (nodes .entry)) (now (nodes .exit)) (now (io .entry)) (λ K T f c. rangeW K T f at c s not pre) r) ⌝ }
 {
     let low = expr(io, nodes, at, made, ask);
     let Step::Got(_, _, c) = low else {
@@ -507,7 +535,7 @@ fn between(
 }
 
 // A word, and an expression.
-fn after(io: &[&[u32]; 2], nodes: &mut [u32], at: u32, made: u32, word: u32, ask: u32) -> Step
+fn after(io: &[&[u32]; 3], nodes: &mut [u32], at: u32, made: u32, word: u32, ask: u32) -> Step
     requires { ⌜ Ready 0 (now io) at made × Asks 66 ask × (0 < word) ⌝ }
     ensures { λ r. ⌜ Within 1 0 (now (io .entry)) at made r × ((s : ℕ) → Does s ask made (now (nodes .entry)) (now (nodes .exit)) (now (io .entry)) (λ K T f c. afterW K T f at word c s) r) ⌝ }
 {
@@ -519,8 +547,8 @@ fn after(io: &[&[u32]; 2], nodes: &mut [u32], at: u32, made: u32, word: u32, ask
 }
 
 // After IN.
-fn inside(
-    io: &[&[u32]; 2],
+fn among(
+    io: &[&[u32]; 3],
     nodes: &mut [u32],
     at: u32,
     made: u32,
@@ -529,7 +557,7 @@ fn inside(
     ask: u32,
 ) -> Step
     requires { ⌜ Ready 0 (now io) at made × Asks 66 ask × (base ≤ made) ⌝ }
-    ensures { λ r. ⌜ Within 1 0 (now (io .entry)) at made r × ((s pre : ℕ) → made ≡ base + pre → Does s ask made (now (nodes .entry)) (now (nodes .exit)) (now (io .entry)) (λ K T f c. insideW K T f at c not pre) r) ⌝ }
+    ensures { λ r. ⌜ Within 1 0 (now (io .entry)) at made r × ((s pre : ℕ) → made ≡ base + pre → Does s ask made (now (nodes .entry)) (now (nodes .exit)) (now (io .entry)) (λ K T f c. amongW K T f at c not pre) r) ⌝ }
 {
     let lp = peek(io, at);
     if lp != LP {
@@ -561,7 +589,7 @@ fn inside(
 
 // RP of IN.
 fn ended(
-    io: &[&[u32]; 2],
+    io: &[&[u32]; 3],
     nodes: &mut [u32],
     at: u32,
     made: u32,
@@ -581,7 +609,7 @@ fn ended(
 }
 
 // { expression , }: says how many.
-fn list(io: &[&[u32]; 2], nodes: &mut [u32], from: u32, start: u32, ask: u32) -> Step
+fn list(io: &[&[u32]; 3], nodes: &mut [u32], from: u32, start: u32, ask: u32) -> Step
     requires { ⌜ Ready 0 (now io) from start × Asks 66 ask ⌝ }
     ensures { λ r. ⌜ Within 1 0 (now (io .entry)) from start r × Does 1 ask start (now (nodes .entry)) (now (nodes .exit)) (now (io .entry)) (λ K T f c. listW K T f from c 0) r ⌝ }
 {
@@ -605,9 +633,9 @@ fn list(io: &[&[u32]; 2], nodes: &mut [u32], from: u32, start: u32, ask: u32) ->
     counted(at, made, n)
 }
 
-fn prefix(io: &[&[u32]; 2], nodes: &mut [u32], at: u32, made: u32, kind: u32, ask: u32) -> Step
+fn sign(io: &[&[u32]; 3], nodes: &mut [u32], at: u32, made: u32, kind: u32, ask: u32) -> Step
     requires { ⌜ Ready 0 (now io) at made × Asks 65 ask × (at < tokens (now io)) × Seen (now io) at kind ⌝ }
-    ensures { λ r. ⌜ Within 1 0 (now (io .entry)) at made r × ((s : ℕ) → Does s ask made (now (nodes .entry)) (now (nodes .exit)) (now (io .entry)) (λ K T f c. prefixW K T f at c s) r) ⌝ }
+    ensures { λ r. ⌜ Within 1 0 (now (io .entry)) at made r × ((s : ℕ) → Does s ask made (now (nodes .entry)) (now (nodes .exit)) (now (io .entry)) (λ K T f c. signW K T f at c s) r) ⌝ }
 {
     let p = kinds::prefix(kind);
     if asked(ask) > p {
@@ -622,7 +650,7 @@ fn prefix(io: &[&[u32]; 2], nodes: &mut [u32], at: u32, made: u32, kind: u32, as
 }
 
 // A call, or up to three names; in a column, name DOT STAR.
-fn dotted(io: &[&[u32]; 2], nodes: &mut [u32], at: u32, made: u32, kind: u32, s: u32) -> Step
+fn dotted(io: &[&[u32]; 3], nodes: &mut [u32], at: u32, made: u32, kind: u32, s: u32) -> Step
     requires { ⌜ Ready 1 (now io) at made × Seen (now io) at kind ⌝ }
     ensures { λ r. ⌜ Within 0 1 (now (io .entry)) at made r × Lays made (now (nodes .entry)) (now (nodes .exit)) (now (io .entry)) (λ K T. dottedW K T at s) r ⌝ }
 {
@@ -640,7 +668,7 @@ fn dotted(io: &[&[u32]; 2], nodes: &mut [u32], at: u32, made: u32, kind: u32, s:
 }
 
 // DOT name [ DOT name ] after a name, and the record over them.
-fn dots(io: &[&[u32]; 2], nodes: &mut [u32], at: u32, made: u32) -> Step
+fn dots(io: &[&[u32]; 3], nodes: &mut [u32], at: u32, made: u32) -> Step
     requires { ⌜ Ready 0 (now io) at made × (at < tokens (now io)) ⌝ }
     ensures { λ r. ⌜ Within 1 0 (now (io .entry)) at made r × Lays made (now (nodes .entry)) (now (nodes .exit)) (now (io .entry)) (λ K T. dotsW K T at) r ⌝ }
 {
@@ -662,7 +690,7 @@ fn dots(io: &[&[u32]; 2], nodes: &mut [u32], at: u32, made: u32) -> Step
 }
 
 // After LP of a call, whose name is the last record.
-fn call(io: &[&[u32]; 2], nodes: &mut [u32], at: u32, made: u32, ask: u32) -> Step
+fn call(io: &[&[u32]; 3], nodes: &mut [u32], at: u32, made: u32, ask: u32) -> Step
     requires { ⌜ Ready 0 (now io) at made × Asks 66 ask ⌝ }
     ensures { λ r. ⌜ Within 1 0 (now (io .entry)) at made r × Does 1 ask made (now (nodes .entry)) (now (nodes .exit)) (now (io .entry)) (λ K T f c. callW K T f at c) r ⌝ }
 {
@@ -688,7 +716,7 @@ fn is_bare(kind: u32) -> bool
     }
 }
 
-fn bare(io: &[&[u32]; 2], nodes: &mut [u32], at: u32, made: u32, kind: u32) -> Step
+fn bare(io: &[&[u32]; 3], nodes: &mut [u32], at: u32, made: u32, kind: u32) -> Step
     requires { ⌜ Ready 0 (now io) at made × Seen (now io) at kind ⌝ }
     ensures { λ r. ⌜ Within 1 0 (now (io .entry)) at made r × Lays made (now (nodes .entry)) (now (nodes .exit)) (now (io .entry)) (λ K T. choose (eqb kind STAR) (calledW K T (at + 1) 2 0 []) (calledW K T at 0 0 [])) r ⌝ }
 {
@@ -699,7 +727,7 @@ fn bare(io: &[&[u32]; 2], nodes: &mut [u32], at: u32, made: u32, kind: u32) -> S
 }
 
 fn called(
-    io: &[&[u32]; 2],
+    io: &[&[u32]; 3],
     nodes: &mut [u32],
     at: u32,
     made: u32,
@@ -720,7 +748,7 @@ fn called(
 }
 
 // After LP: ( query ) or ( expressions ).
-fn paren(io: &[&[u32]; 2], nodes: &mut [u32], at: u32, made: u32, ask: u32) -> Step
+fn paren(io: &[&[u32]; 3], nodes: &mut [u32], at: u32, made: u32, ask: u32) -> Step
     requires { ⌜ Ready 4 (now io) at made × Asks 66 ask ⌝ }
     ensures { λ r. ⌜ Within 1 4 (now (io .entry)) at made r × Does 1 ask made (now (nodes .entry)) (now (nodes .exit)) (now (io .entry)) (λ K T f c. parenW K T f at c) r ⌝ }
 {
@@ -737,7 +765,7 @@ fn paren(io: &[&[u32]; 2], nodes: &mut [u32], at: u32, made: u32, ask: u32) -> S
     }
 }
 
-fn sub(io: &[&[u32]; 2], nodes: &mut [u32], at: u32, made: u32, code: u32, ask: u32) -> Step
+fn sub(io: &[&[u32]; 3], nodes: &mut [u32], at: u32, made: u32, code: u32, ask: u32) -> Step
     requires { ⌜ Ready 4 (now io) at made × Asks 66 ask ⌝ }
     ensures { λ r. ⌜ Within 1 4 (now (io .entry)) at made r × Does 1 ask made (now (nodes .entry)) (now (nodes .exit)) (now (io .entry)) (λ K T f c. subW K T f at c code) r ⌝ }
 {
@@ -748,7 +776,7 @@ fn sub(io: &[&[u32]; 2], nodes: &mut [u32], at: u32, made: u32, code: u32, ask: 
     close(io, nodes, d.at, d.made, made, code, 1)
 }
 
-fn exists(io: &[&[u32]; 2], nodes: &mut [u32], at: u32, made: u32, ask: u32) -> Step
+fn exists(io: &[&[u32]; 3], nodes: &mut [u32], at: u32, made: u32, ask: u32) -> Step
     requires { ⌜ Ready 0 (now io) at made × Asks 66 ask ⌝ }
     ensures { λ r. ⌜ Within 1 0 (now (io .entry)) at made r × Does 1 ask made (now (nodes .entry)) (now (nodes .exit)) (now (io .entry)) (λ K T f c. existsW K T f at c) r ⌝ }
 {
@@ -760,7 +788,7 @@ fn exists(io: &[&[u32]; 2], nodes: &mut [u32], at: u32, made: u32, ask: u32) -> 
 }
 
 // After CASE.
-fn case(io: &[&[u32]; 2], nodes: &mut [u32], at: u32, made: u32, ask: u32) -> Step
+fn case(io: &[&[u32]; 3], nodes: &mut [u32], at: u32, made: u32, ask: u32) -> Step
     requires { ⌜ Ready 2 (now io) at made × Asks 66 ask ⌝ }
     ensures { λ r. ⌜ Within 1 2 (now (io .entry)) at made r × Does 1 ask made (now (nodes .entry)) (now (nodes .exit)) (now (io .entry)) (λ K T f c. caseW K T f at c) r ⌝ }
 {
@@ -768,7 +796,7 @@ fn case(io: &[&[u32]; 2], nodes: &mut [u32], at: u32, made: u32, ask: u32) -> St
     let Step::Got(_, _, c) = b else {
         return b;
     };
-    let w = whens(io, nodes, c.at, c.made, ask);
+    let w = when(io, nodes, c.at, c.made, ask);
     let Step::Got(_, n_d, d) = w else {
         return w;
     };
@@ -784,7 +812,7 @@ fn case(io: &[&[u32]; 2], nodes: &mut [u32], at: u32, made: u32, ask: u32) -> St
     got(f.at + 1, m, 12)
 }
 
-fn cased(io: &[&[u32]; 2], nodes: &mut [u32], at: u32, made: u32, ask: u32) -> Step
+fn cased(io: &[&[u32]; 3], nodes: &mut [u32], at: u32, made: u32, ask: u32) -> Step
     requires { ⌜ Ready 1 (now io) at made × Asks 66 ask ⌝ }
     ensures { λ r. ⌜ Within 0 1 (now (io .entry)) at made r × Does 1 ask made (now (nodes .entry)) (now (nodes .exit)) (now (io .entry)) (λ K T f c. casedW K T f at c) r ⌝ }
 {
@@ -797,9 +825,9 @@ fn cased(io: &[&[u32]; 2], nodes: &mut [u32], at: u32, made: u32, ask: u32) -> S
 }
 
 // WHEN expression THEN expression, once or more: says how many expressions.
-fn whens(io: &[&[u32]; 2], nodes: &mut [u32], from: u32, start: u32, ask: u32) -> Step
+fn when(io: &[&[u32]; 3], nodes: &mut [u32], from: u32, start: u32, ask: u32) -> Step
     requires { ⌜ Ready 0 (now io) from start × Asks 66 ask ⌝ }
-    ensures { λ r. ⌜ Within 1 0 (now (io .entry)) from start r × Does 1 ask start (now (nodes .entry)) (now (nodes .exit)) (now (io .entry)) (λ K T f c. whensW K T f from c 0) r ⌝ }
+    ensures { λ r. ⌜ Within 1 0 (now (io .entry)) from start r × Does 1 ask start (now (nodes .entry)) (now (nodes .exit)) (now (io .entry)) (λ K T f c. whenW K T f from c 0) r ⌝ }
 {
     let mut at = from;
     let mut made = start;
@@ -825,7 +853,7 @@ fn whens(io: &[&[u32]; 2], nodes: &mut [u32], from: u32, start: u32, ask: u32) -
 }
 
 // After CAST.
-fn cast(io: &[&[u32]; 2], nodes: &mut [u32], at: u32, made: u32, ask: u32) -> Step
+fn cast(io: &[&[u32]; 3], nodes: &mut [u32], at: u32, made: u32, ask: u32) -> Step
     requires { ⌜ Ready 0 (now io) at made × Asks 66 ask ⌝ }
     ensures { λ r. ⌜ Within 1 0 (now (io .entry)) at made r × Does 1 ask made (now (nodes .entry)) (now (nodes .exit)) (now (io .entry)) (λ K T f c. castW K T f at c) r ⌝ }
 {
@@ -846,7 +874,7 @@ fn cast(io: &[&[u32]; 2], nodes: &mut [u32], at: u32, made: u32, ask: u32) -> St
 
 // ---- queries
 
-fn query(io: &[&[u32]; 2], nodes: &mut [u32], at: u32, made: u32, ask: u32) -> Step
+fn query(io: &[&[u32]; 3], nodes: &mut [u32], at: u32, made: u32, ask: u32) -> Step
     requires { ⌜ Ready 4 (now io) at made × Asks 66 ask × (strengthAsked ask ≡ 0) ⌝ }
     ensures { λ r. ⌜ Within 1 4 (now (io .entry)) at made r × Does 0 ask made (now (nodes .entry)) (now (nodes .exit)) (now (io .entry)) (λ K T f c. queryW K T f at c) r ⌝ }
 {
@@ -862,7 +890,7 @@ fn query(io: &[&[u32]; 2], nodes: &mut [u32], at: u32, made: u32, ask: u32) -> S
     got(d.at, m, 0)
 }
 
-fn body(io: &[&[u32]; 2], nodes: &mut [u32], at: u32, made: u32, ask: u32) -> Step
+fn body(io: &[&[u32]; 3], nodes: &mut [u32], at: u32, made: u32, ask: u32) -> Step
     requires { ⌜ Ready 0 (now io) at made × Asks 66 ask × (strengthAsked ask ≡ 0) ⌝ }
     ensures { λ r. ⌜ Within 1 0 (now (io .entry)) at made r × Opens ask r × Does 0 ask made (now (nodes .entry)) (now (nodes .exit)) (now (io .entry)) (λ K T f c. bodyW K T f at c) r ⌝ }
 {
@@ -883,14 +911,14 @@ fn body(io: &[&[u32]; 2], nodes: &mut [u32], at: u32, made: u32, ask: u32) -> St
 }
 
 // ORDER BY and LIMIT.
-fn tail(io: &[&[u32]; 2], nodes: &mut [u32], at: u32, made: u32, ask: u32) -> Step
+fn tail(io: &[&[u32]; 3], nodes: &mut [u32], at: u32, made: u32, ask: u32) -> Step
     requires { ⌜ Ready 3 (now io) at made × Asks 66 ask ⌝ }
     ensures { λ r. ⌜ Within 0 3 (now (io .entry)) at made r × Does 1 ask made (now (nodes .entry)) (now (nodes .exit)) (now (io .entry)) (λ K T f c. tailW K T f at c) r ⌝ }
 {
     let kind = peek(io, at);
     match kind {
         ORDER => {
-            let o = order(io, nodes, at + 1, made, ask);
+            let o = sort(io, nodes, at + 1, made, ask);
             let Step::Got(_, _, d) = o else {
                 return o;
             };
@@ -908,7 +936,7 @@ fn tail(io: &[&[u32]; 2], nodes: &mut [u32], at: u32, made: u32, ask: u32) -> St
 }
 
 // After VALUES: rows of one length.
-fn rows(io: &[&[u32]; 2], nodes: &mut [u32], from: u32, base: u32, ask: u32) -> Step
+fn rows(io: &[&[u32]; 3], nodes: &mut [u32], from: u32, base: u32, ask: u32) -> Step
     requires { ⌜ Ready 1 (now io) from base × Asks 66 ask ⌝ }
     ensures { λ r. ⌜ Within 1 1 (now (io .entry)) from base r × Does 1 ask base (now (nodes .entry)) (now (nodes .exit)) (now (io .entry)) (λ K T f c. allRowsW K T f from c) r ⌝ }
 {
@@ -936,7 +964,7 @@ fn rows(io: &[&[u32]; 2], nodes: &mut [u32], from: u32, base: u32, ask: u32) -> 
 }
 
 // ( expressions ), as many as `width` unless that is 0: says how many.
-fn row(io: &[&[u32]; 2], nodes: &mut [u32], at: u32, made: u32, width: u32, ask: u32) -> Step
+fn row(io: &[&[u32]; 3], nodes: &mut [u32], at: u32, made: u32, width: u32, ask: u32) -> Step
     requires { ⌜ Ready 0 (now io) at made × Asks 66 ask ⌝ }
     ensures { λ r. ⌜ Within 1 0 (now (io .entry)) at made r × Does 1 ask made (now (nodes .entry)) (now (nodes .exit)) (now (io .entry)) (λ K T f c. rowW K T f at c width) r ⌝ }
 {
@@ -963,7 +991,7 @@ fn row(io: &[&[u32]; 2], nodes: &mut [u32], at: u32, made: u32, width: u32, ask:
 }
 
 // After SELECT.
-fn select(io: &[&[u32]; 2], nodes: &mut [u32], at: u32, made: u32, ask: u32) -> Step
+fn select(io: &[&[u32]; 3], nodes: &mut [u32], at: u32, made: u32, ask: u32) -> Step
     requires { ⌜ Ready 8 (now io) at made × Asks 66 ask ⌝ }
     ensures { λ r. ⌜ Within 1 8 (now (io .entry)) at made r × Does 1 ask made (now (nodes .entry)) (now (nodes .exit)) (now (io .entry)) (λ K T f c. selectW K T f at c) r ⌝ }
 {
@@ -988,7 +1016,7 @@ fn select(io: &[&[u32]; 2], nodes: &mut [u32], at: u32, made: u32, ask: u32) -> 
 }
 
 // FROM, WHERE, GROUP BY, HAVING.
-fn parts(io: &[&[u32]; 2], nodes: &mut [u32], at: u32, made: u32, ask: u32) -> Step
+fn parts(io: &[&[u32]; 3], nodes: &mut [u32], at: u32, made: u32, ask: u32) -> Step
     requires { ⌜ Ready 4 (now io) at made × Asks 66 ask ⌝ }
     ensures { λ r. ⌜ Within 0 4 (now (io .entry)) at made r × Does 1 ask made (now (nodes .entry)) (now (nodes .exit)) (now (io .entry)) (λ K T f c. partsW K T f at c) r ⌝ }
 {
@@ -1013,7 +1041,7 @@ fn parts(io: &[&[u32]; 2], nodes: &mut [u32], at: u32, made: u32, ask: u32) -> S
 }
 
 // An optional clause of a word and an expression.
-fn clause(io: &[&[u32]; 2], nodes: &mut [u32], at: u32, made: u32, word: u32, ask: u32) -> Step
+fn clause(io: &[&[u32]; 3], nodes: &mut [u32], at: u32, made: u32, word: u32, ask: u32) -> Step
     requires { ⌜ Ready 1 (now io) at made × Asks 66 ask × (0 < word) ⌝ }
     ensures { λ r. ⌜ Within 0 1 (now (io .entry)) at made r × Does 1 ask made (now (nodes .entry)) (now (nodes .exit)) (now (io .entry)) (λ K T f c. clauseW K T f at word c) r ⌝ }
 {
@@ -1026,7 +1054,7 @@ fn clause(io: &[&[u32]; 2], nodes: &mut [u32], at: u32, made: u32, word: u32, as
 }
 
 // GROUP BY and HAVING.
-fn group(io: &[&[u32]; 2], nodes: &mut [u32], at: u32, made: u32, ask: u32) -> Step
+fn group(io: &[&[u32]; 3], nodes: &mut [u32], at: u32, made: u32, ask: u32) -> Step
     requires { ⌜ Ready 2 (now io) at made × Asks 66 ask ⌝ }
     ensures { λ r. ⌜ Within 0 2 (now (io .entry)) at made r × Does 1 ask made (now (nodes .entry)) (now (nodes .exit)) (now (io .entry)) (λ K T f c. groupW K T f at c) r ⌝ }
 {
@@ -1056,7 +1084,7 @@ fn group(io: &[&[u32]; 2], nodes: &mut [u32], at: u32, made: u32, ask: u32) -> S
 }
 
 // Says how many.
-fn cols(io: &[&[u32]; 2], nodes: &mut [u32], from: u32, base: u32, ask: u32) -> Step
+fn cols(io: &[&[u32]; 3], nodes: &mut [u32], from: u32, base: u32, ask: u32) -> Step
     requires { ⌜ Ready 2 (now io) from base × Asks 66 ask ⌝ }
     ensures { λ r. ⌜ Within 1 2 (now (io .entry)) from base r × Does 1 ask base (now (nodes .entry)) (now (nodes .exit)) (now (io .entry)) (λ K T f c. colsW K T f from c 0) r ⌝ }
 {
@@ -1080,7 +1108,7 @@ fn cols(io: &[&[u32]; 2], nodes: &mut [u32], from: u32, base: u32, ask: u32) -> 
     counted(at, made, n)
 }
 
-fn col(io: &[&[u32]; 2], nodes: &mut [u32], at: u32, made: u32, ask: u32) -> Step
+fn col(io: &[&[u32]; 3], nodes: &mut [u32], at: u32, made: u32, ask: u32) -> Step
     requires { ⌜ Ready 2 (now io) at made × Asks 66 ask ⌝ }
     ensures { λ r. ⌜ Within 1 2 (now (io .entry)) at made r × Does 1 ask made (now (nodes .entry)) (now (nodes .exit)) (now (io .entry)) (λ K T f c. colW K T f at c) r ⌝ }
 {
@@ -1105,7 +1133,7 @@ fn col(io: &[&[u32]; 2], nodes: &mut [u32], at: u32, made: u32, ask: u32) -> Ste
 }
 
 // Says the mode: 0 none, 1 AS, 2 bare.
-fn alias(io: &[&[u32]; 2], nodes: &mut [u32], at: u32, made: u32) -> Step
+fn alias(io: &[&[u32]; 3], nodes: &mut [u32], at: u32, made: u32) -> Step
     requires { ⌜ Ready 1 (now io) at made ⌝ }
     ensures { λ r. ⌜ Within 0 1 (now (io .entry)) at made r × Lays made (now (nodes .entry)) (now (nodes .exit)) (now (io .entry)) (λ K T. aliasW K T at) r ⌝ }
 {
@@ -1119,7 +1147,7 @@ fn alias(io: &[&[u32]; 2], nodes: &mut [u32], at: u32, made: u32) -> Step
     }
 }
 
-fn renamed(io: &[&[u32]; 2], nodes: &mut [u32], at: u32, made: u32, kind: u32) -> Step
+fn renamed(io: &[&[u32]; 3], nodes: &mut [u32], at: u32, made: u32, kind: u32) -> Step
     requires { ⌜ Ready 0 (now io) at made × (at < tokens (now io)) ⌝ }
     ensures { λ r. ⌜ Within 1 0 (now (io .entry)) at made r × (Seen (now (io .entry)) at kind → Lays made (now (nodes .entry)) (now (nodes .exit)) (now (io .entry)) (λ K T. choose (eqb kind AS) (bind (nameW K T (at + 1)) (λ a s n rs. done a 1 0 rs)) (done (at + 1) 2 0 (nameRec K T at ∷ []))) r) ⌝ }
 {
@@ -1134,7 +1162,7 @@ fn renamed(io: &[&[u32]; 2], nodes: &mut [u32], at: u32, made: u32, kind: u32) -
     got(at + 1, m, 2)
 }
 
-fn from(io: &[&[u32]; 2], nodes: &mut [u32], at: u32, made: u32, kind: u32, ask: u32) -> Step
+fn from(io: &[&[u32]; 3], nodes: &mut [u32], at: u32, made: u32, kind: u32, ask: u32) -> Step
     requires { ⌜ Ready 1 (now io) at made × Asks 66 ask × Seen (now io) at kind ⌝ }
     ensures { λ r. ⌜ Within 0 1 (now (io .entry)) at made r × Does 1 ask made (now (nodes .entry)) (now (nodes .exit)) (now (io .entry)) (λ K T f c. fromW K T f at c) r ⌝ }
 {
@@ -1155,7 +1183,7 @@ fn from(io: &[&[u32]; 2], nodes: &mut [u32], at: u32, made: u32, kind: u32, ask:
 }
 
 // Says how many.
-fn joins(io: &[&[u32]; 2], nodes: &mut [u32], from: u32, start: u32, ask: u32) -> Step
+fn joins(io: &[&[u32]; 3], nodes: &mut [u32], from: u32, start: u32, ask: u32) -> Step
     requires { ⌜ Ready 0 (now io) from start × Asks 66 ask ⌝ }
     ensures { λ r. ⌜ Within 0 0 (now (io .entry)) from start r × Does 1 ask start (now (nodes .entry)) (now (nodes .exit)) (now (io .entry)) (λ K T f c. joinsW K T f from c 0) r ⌝ }
 {
@@ -1196,7 +1224,7 @@ fn begins_join(kind: u32) -> bool
 }
 
 // COMMA, or up to three join words and JOIN: says the join's detail.
-fn joined(io: &[&[u32]; 2], from: u32, first: u32) -> Step
+fn joined(io: &[&[u32]; 3], from: u32, first: u32) -> Step
     requires { ⌜ Ready 0 (now io) from 0 × Seen (now io) from first ⌝ }
     ensures { λ r. ⌜ Within 1 0 (now (io .entry)) from 0 r × Lays 0 [] [] (now (io .entry)) (λ K T. joinedW K T from) r ⌝ }
 {
@@ -1228,7 +1256,7 @@ fn joined(io: &[&[u32]; 2], from: u32, first: u32) -> Step
 }
 
 // ON or USING, or nothing.
-fn on(io: &[&[u32]; 2], nodes: &mut [u32], at: u32, made: u32, ask: u32) -> Step
+fn on(io: &[&[u32]; 3], nodes: &mut [u32], at: u32, made: u32, ask: u32) -> Step
     requires { ⌜ Ready 1 (now io) at made × Asks 66 ask ⌝ }
     ensures { λ r. ⌜ Within 0 1 (now (io .entry)) at made r × Does 1 ask made (now (nodes .entry)) (now (nodes .exit)) (now (io .entry)) (λ K T f c. onW K T f at c) r ⌝ }
 {
@@ -1251,7 +1279,7 @@ fn on(io: &[&[u32]; 2], nodes: &mut [u32], at: u32, made: u32, ask: u32) -> Step
 }
 
 // After USING.
-fn using(io: &[&[u32]; 2], nodes: &mut [u32], from: u32, base: u32) -> Step
+fn using(io: &[&[u32]; 3], nodes: &mut [u32], from: u32, base: u32) -> Step
     requires { ⌜ Ready 0 (now io) from base ⌝ }
     ensures { λ r. ⌜ Within 1 0 (now (io .entry)) from base r × Later (λ f. Lays base (now (nodes .entry)) (now (nodes .exit)) (now (io .entry)) (λ K T. usingW K T f from) r) ⌝ }
 {
@@ -1279,7 +1307,16 @@ fn using(io: &[&[u32]; 2], nodes: &mut [u32], from: u32, base: u32) -> Step
     close(io, nodes, at, made, base, 11, n)
 }
 
-fn source(io: &[&[u32]; 2], nodes: &mut [u32], at: u32, made: u32, ask: u32) -> Step
+// As `expr`.
+fn source(io: &[&[u32]; 3], nodes: &mut [u32], at: u32, made: u32, ask: u32) -> Step
+    requires { ⌜ Ready 4 (now io) at made × Asks 66 ask ⌝ }
+    ensures { λ r. ⌜ Within 1 4 (now (io .entry)) at made r × Does 1 ask made (now (nodes .entry)) (now (nodes .exit)) (now (io .entry)) (λ K T f c. sourceW K T f at c) r ⌝ }
+{
+    src(io, nodes, at, made, ask)
+}
+
+// A table, or a query in brackets.
+fn src(io: &[&[u32]; 3], nodes: &mut [u32], at: u32, made: u32, ask: u32) -> Step
     requires { ⌜ Ready 4 (now io) at made × Asks 66 ask ⌝ }
     ensures { λ r. ⌜ Within 1 4 (now (io .entry)) at made r × Does 1 ask made (now (nodes .entry)) (now (nodes .exit)) (now (io .entry)) (λ K T f c. sourceW K T f at c) r ⌝ }
 {
@@ -1295,7 +1332,7 @@ fn source(io: &[&[u32]; 2], nodes: &mut [u32], at: u32, made: u32, ask: u32) -> 
 }
 
 // RP and an optional alias after a query in FROM.
-fn lent(io: &[&[u32]; 2], nodes: &mut [u32], at: u32, made: u32, base: u32) -> Step
+fn lent(io: &[&[u32]; 3], nodes: &mut [u32], at: u32, made: u32, base: u32) -> Step
     requires { ⌜ Ready 0 (now io) at made × (base ≤ made) ⌝ }
     ensures { λ r. ⌜ Within 1 0 (now (io .entry)) at made r × ((N : List ℕ) (rs : List Rec) → Filled N (now (nodes .entry)) base made rs → Lays base N (now (nodes .exit)) (now (io .entry)) (λ K T. lentW K T at rs) r) ⌝ }
 {
@@ -1311,7 +1348,7 @@ fn lent(io: &[&[u32]; 2], nodes: &mut [u32], at: u32, made: u32, base: u32) -> S
     got(e.at, m, 0)
 }
 
-fn table(io: &[&[u32]; 2], nodes: &mut [u32], at: u32, made: u32) -> Step
+fn table(io: &[&[u32]; 3], nodes: &mut [u32], at: u32, made: u32) -> Step
     requires { ⌜ Ready 4 (now io) at made ⌝ }
     ensures { λ r. ⌜ Within 1 4 (now (io .entry)) at made r × Lays made (now (nodes .entry)) (now (nodes .exit)) (now (io .entry)) (λ K T. tableW K T at) r ⌝ }
 {
@@ -1339,7 +1376,7 @@ fn table(io: &[&[u32]; 2], nodes: &mut [u32], at: u32, made: u32) -> Step
 }
 
 // [ schema DOT ] name
-fn qualified(io: &[&[u32]; 2], nodes: &mut [u32], at: u32, made: u32) -> Step
+fn qualified(io: &[&[u32]; 3], nodes: &mut [u32], at: u32, made: u32) -> Step
     requires { ⌜ Ready 1 (now io) at made ⌝ }
     ensures { λ r. ⌜ Within 1 1 (now (io .entry)) at made r × Lays made (now (nodes .entry)) (now (nodes .exit)) (now (io .entry)) (λ K T. qualifiedW K T at) r ⌝ }
 {
@@ -1355,7 +1392,7 @@ fn qualified(io: &[&[u32]; 2], nodes: &mut [u32], at: u32, made: u32) -> Step
 }
 
 // INDEXED BY name, NOT INDEXED or nothing: says 1, 2 or 0.
-fn index(io: &[&[u32]; 2], nodes: &mut [u32], at: u32, made: u32) -> Step
+fn index(io: &[&[u32]; 3], nodes: &mut [u32], at: u32, made: u32) -> Step
     requires { ⌜ Ready 1 (now io) at made ⌝ }
     ensures { λ r. ⌜ Within 0 1 (now (io .entry)) at made r × Lays made (now (nodes .entry)) (now (nodes .exit)) (now (io .entry)) (λ K T. indexW K T at) r ⌝ }
 {
@@ -1388,9 +1425,9 @@ fn index(io: &[&[u32]; 2], nodes: &mut [u32], at: u32, made: u32) -> Step
 }
 
 // After ORDER.
-fn order(io: &[&[u32]; 2], nodes: &mut [u32], from: u32, base: u32, ask: u32) -> Step
+fn sort(io: &[&[u32]; 3], nodes: &mut [u32], from: u32, base: u32, ask: u32) -> Step
     requires { ⌜ Ready 0 (now io) from base × Asks 66 ask ⌝ }
-    ensures { λ r. ⌜ Within 1 0 (now (io .entry)) from base r × Does 1 ask base (now (nodes .entry)) (now (nodes .exit)) (now (io .entry)) (λ K T f c. orderW K T f from c) r ⌝ }
+    ensures { λ r. ⌜ Within 1 0 (now (io .entry)) from base r × Does 1 ask base (now (nodes .entry)) (now (nodes .exit)) (now (io .entry)) (λ K T f c. sortW K T f from c) r ⌝ }
 {
     let by = peek(io, from);
     if by != BY {
@@ -1422,7 +1459,7 @@ fn order(io: &[&[u32]; 2], nodes: &mut [u32], from: u32, base: u32, ask: u32) ->
 }
 
 // [ ASC or DESC ] [ NULLS FIRST or LAST ]: says the term's detail.
-fn way(io: &[&[u32]; 2], at: u32) -> Step
+fn way(io: &[&[u32]; 3], at: u32) -> Step
     requires { ⌜ Ready 0 (now io) at 0 ⌝ }
     ensures { λ r. ⌜ Within 0 0 (now (io .entry)) at 0 r × Lays 0 [] [] (now (io .entry)) (λ K T. wayW K T at) r ⌝ }
 {
@@ -1434,7 +1471,7 @@ fn way(io: &[&[u32]; 2], at: u32) -> Step
     }
 }
 
-fn nulls(io: &[&[u32]; 2], at: u32, detail: u8) -> Step
+fn nulls(io: &[&[u32]; 3], at: u32, detail: u8) -> Step
     requires { ⌜ Ready 0 (now io) at 0 × (detail ≤ 2) ⌝ }
     ensures { λ r. ⌜ Within 0 0 (now (io .entry)) at 0 r × Lays 0 [] [] (now (io .entry)) (λ K T. nullsW K T at detail) r ⌝ }
 {
@@ -1450,7 +1487,7 @@ fn nulls(io: &[&[u32]; 2], at: u32, detail: u8) -> Step
     }
 }
 
-fn limit(io: &[&[u32]; 2], nodes: &mut [u32], at: u32, made: u32, ask: u32) -> Step
+fn limit(io: &[&[u32]; 3], nodes: &mut [u32], at: u32, made: u32, ask: u32) -> Step
     requires { ⌜ Ready 2 (now io) at made × Asks 66 ask ⌝ }
     ensures { λ r. ⌜ Within 0 2 (now (io .entry)) at made r × Does 1 ask made (now (nodes .entry)) (now (nodes .exit)) (now (io .entry)) (λ K T f c. limitW K T f at c) r ⌝ }
 {
@@ -1562,7 +1599,7 @@ fn unfit(kinds: &[u32], texts: &[u32]) -> usize
 }
 
 // A query, then the end of the list or one SEMI and the end.
-fn command(io: &[&[u32]; 2], nodes: &mut [u32]) -> Step
+fn command(io: &[&[u32]; 3], nodes: &mut [u32]) -> Step
     requires { ⌜ Ready 4 (now io) 0 0 ⌝ }
     ensures { λ r. ⌜ Within 1 4 (now (io .entry)) 0 0 r × Later (λ f. Lays 0 (now (nodes .entry)) (now (nodes .exit)) (now (io .entry)) (λ K T. commandW K T f) r) ⌝ }
 {
@@ -1584,6 +1621,26 @@ fn command(io: &[&[u32]; 2], nodes: &mut [u32]) -> Step
     q
 }
 
+// The two walks of lists that are lent and fit.
+fn start<'a>(kinds: &'a [u32], texts: &'a [u32], table: &'a [u32], nodes: &mut [u32]) -> Answer
+    requires { ⌜ Lent (now kinds) (now texts) × (greatestLike (now kinds) (now texts) ≤ 3) × FitLists (now kinds) (now texts) × (now table ≡ strengthTable) ⌝ }
+    ensures { λ r. ⌜ Reads (now (kinds .entry)) (now (texts .entry)) (now (nodes .entry)) (number r) (place r) (now (nodes .exit)) ⌝ }
+{
+    let io = [kinds, texts, table];
+    let first = command(&io, &mut nodes[..0]);
+    match first {
+        Step::Refused(n, p) => Answer::Refused(n as u32, p as usize),
+        Step::Got(_, _, c) => {
+            let need = c.made as usize;
+            if need * 4 > nodes.len() {
+                return Answer::Refused(9, need);
+            }
+            command(&io, nodes);
+            Answer::Accepted(need)
+        }
+    }
+}
+
 // Reads the list into records, or refuses it; what is refused leaves the table as it was.
 pub fn read<'a>(kinds: &'a [u32], texts: &'a [u32], nodes: &mut [u32]) -> Answer
     ensures { λ r. ⌜ Reads (now (kinds .entry)) (now (texts .entry)) (now (nodes .entry)) (number r) (place r) (now (nodes .exit)) ⌝ }
@@ -1597,17 +1654,6 @@ pub fn read<'a>(kinds: &'a [u32], texts: &'a [u32], nodes: &mut [u32]) -> Answer
     if !all_fit(kinds, texts) {
         return Answer::Refused(2, unfit(kinds, texts));
     }
-    let io = [kinds, texts];
-    let first = command(&io, &mut nodes[..0]);
-    match first {
-        Step::Refused(n, p) => Answer::Refused(n as u32, p as usize),
-        Step::Got(_, _, c) => {
-            let need = c.made as usize;
-            if need * 4 > nodes.len() {
-                return Answer::Refused(9, need);
-            }
-            command(&io, nodes);
-            Answer::Accepted(need)
-        }
-    }
+    let table = kinds::strengths();
+    start(kinds, texts, &table[..], nodes)
 }

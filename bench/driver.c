@@ -1,0 +1,74 @@
+// Drives the compiled reader: vectors FILE | stack FILE | bench FILE ROUNDS
+#include <stdio.h>
+#include <stdlib.h>
+#include <string.h>
+#include <stdint.h>
+typedef uint32_t u32; typedef uint64_t u64;
+typedef struct { u32 *p; u64 n; } Slice;
+typedef struct { uint8_t tag; u32 number; u64 place; } Answer;
+void reader_read(Answer *out, Slice *kinds, Slice *texts, Slice *nodes);
+static u32 kinds[8192], texts[8192]; static u32 nodes[200000], before[200000];
+static Answer run(u64 nk, u64 nt, u64 nn) {
+    Slice k = {kinds, nk}, t = {texts, nt}, n = {nodes, nn}; Answer a; memset(&a, 0, sizeof a);
+    reader_read(&a, &k, &t, &n); return a;
+}
+static u64 number(Answer a) { return a.tag ? a.number : 0; }
+static char label[256];
+static int parse(FILE *f, u64 *n) { // one line
+    static char line[1 << 20]; if (!fgets(line, sizeof line, f)) return 0;
+    *n = 0; char *s = line; label[0] = 0; char *bar = strchr(line, '|'); if (bar) { *bar = 0; strncpy(label, line, 255); s = bar + 1; }
+    for (;;) { while (*s == ' ' || *s == '\n') s++; if (!*s) break;
+        kinds[*n] = strtoul(s, &s, 10); texts[*n] = 0; if (*s == '.') texts[*n] = strtoul(s + 1, &s, 10); (*n)++; }
+    return 1;
+}
+#define STACK (1 << 18)
+static char area[STACK] __attribute__((aligned(64)));
+static long painted(u64 nt, u64 nn, Answer *a) {
+    Slice k = {kinds, nt}, t = {texts, nt}, n = {nodes, nn}; Answer out; memset(&out, 0, sizeof out);
+    memset(area, 0xA5, STACK);
+    register Answer *rdi __asm__("rdi") = &out; register Slice *rsi __asm__("rsi") = &k, *rdx __asm__("rdx") = &t, *rcx __asm__("rcx") = &n;
+    char *top = area + STACK;
+    __asm__ volatile("movq %%rsp, %%rbx; movq %[top], %%rsp; callq *%[f]; movq %%rbx, %%rsp"
+        : "+r"(rdi), "+r"(rsi), "+r"(rdx), "+r"(rcx) : [top] "r"(top), [f] "r"(&reader_read)
+        : "rbx", "rax", "r8", "r9", "r10", "r11", "memory", "cc", "xmm0", "xmm1", "xmm2", "xmm3", "xmm4", "xmm5", "xmm6", "xmm7");
+    *a = out; long i = 0; while (i < STACK && (uint8_t)area[i] == 0xA5) i++; return STACK - i;
+}
+int main(int argc, char **argv) {
+    FILE *f = fopen(argv[2], "rb"); if (!f) return 2;
+    if (!strcmp(argv[1], "vectors")) {
+        u32 x; long bad = 0, all = 0;
+        while (fread(&x, 4, 1, f) == 1) {
+            u32 nk, nt, e[3]; u32 table = x; static u32 rec[200000];
+            if (!fread(&nk, 4, 1, f)) return 2; if (nk && fread(kinds, 4, nk, f) != nk) return 2;
+            if (!fread(&nt, 4, 1, f)) return 2; if (nt && fread(texts, 4, nt, f) != nt) return 2;
+            if (fread(e, 4, 3, f) != 3) return 2; if (e[2] && fread(rec, 4, e[2], f) != e[2]) return 2;
+            for (int round = 0; round < (table == 0xffffffff ? 2 : 1); round++) {
+            // as large as needed; then exactly as large as needed
+            u64 nn = table == 0xffffffff ? (round ? e[2] : 80000) : table;
+            if (round && e[0]) continue;
+            for (u64 i = 0; i < 80000 + 16; i++) nodes[i] = before[i] = 0xABC00000u + i;
+            Answer a = run(nk, nt, nn); all++;
+            u64 written = number(a) == 0 ? a.place * 4 : 0; int wrong = 0;
+            if (number(a) != e[0] || a.place != e[1]) wrong = 1;
+            if (table == 0xffffffff && e[0] == 0 && !wrong && memcmp(nodes, rec, e[2] * 4)) wrong = 2;
+            if (!wrong && memcmp(nodes + written, before + written, (80000 + 16 - written) * 4)) wrong = 3;
+            if (wrong) { if (bad++ < 10) { printf("case %ld wrong %d: %lu %lu for %u %u:", all, wrong, number(a), a.place, e[0], e[1]);
+                for (u32 i = 0; i < nk && i < 60; i++) printf(" %u", kinds[i]); printf("\n"); } }
+            }
+        }
+        printf("%ld runs, %ld wrong\n", all, bad); return bad != 0;
+    }
+    if (!strcmp(argv[1], "stack")) {
+        u64 n; long worst = 0; char name[256] = ""; int quiet = argc > 3;
+        while (parse(f, &n)) { Answer a; long b = painted(n, 80000, &a); if (!quiet) printf("%6ld bytes  %5lu tokens, %lu at %lu  %s\n", b, n, number(a), a.place, label); if (b > worst) { worst = b; strcpy(name, label); } }
+        printf("worst %ld: %s\n", worst, name); return 0;
+    }
+    if (!strcmp(argv[1], "bench")) {
+        u64 n, tokens = 0; static u32 *ks[4096], *ts[4096]; static u64 ns[4096]; int c = 0;
+        while (parse(f, &n)) { if (!n) continue; ks[c] = malloc(n * 4); ts[c] = malloc(n * 4); memcpy(ks[c], kinds, n * 4); memcpy(ts[c], texts, n * 4); ns[c++] = n; tokens += n; }
+        int rounds = atoi(argv[3]); u64 ok = 0;
+        for (int r = 0; r < rounds; r++) for (int i = 0; i < c; i++) { Slice k = {ks[i], ns[i]}, t = {ts[i], ns[i]}, o = {nodes, 80000}; Answer a; reader_read(&a, &k, &t, &o); ok += a.tag == 0; }
+        printf("bench: %d commands, %lu tokens, %lu accepted\n", c, tokens, ok); return 0;
+    }
+    return 2;
+}
