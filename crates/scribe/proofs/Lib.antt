@@ -1,0 +1,4 @@
+pub mod Standing
+pub mod Records
+pub mod Tokens
+pub mod Spelling
