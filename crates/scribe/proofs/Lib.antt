@@ -2,3 +2,9 @@ pub mod Standing
 pub mod Records
 pub mod Tokens
 pub mod Spelling
+pub mod Whole
+pub mod Kids
+pub mod Spelt
+pub mod Lists
+pub mod Clauses
+pub mod Leading

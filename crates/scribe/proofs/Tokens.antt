@@ -1,6 +1,6 @@
 -- Tokens written one part before the other. Assumes nothing.
 use mathlib.Core.List.{List, [], _∷_, _++_, append-assoc, map}
-use mathlib.Core.Path.{_≡_, refl, sym, ap, _∙_}
+use mathlib.Core.Path.{_≡_, refl, sym, ap, _∙_, subst⁻¹}
 use Prim.Native.Nat.{ℕ, zero, suc, _+_, _-_, _≤_, _<_}
 use lib.ListN.{length, set, length-set, length-append, drop}
 use native.Mathlib.Omega.{arith}
@@ -69,3 +69,7 @@ one-put {lane} {A} {to} t {A'} {from} k =
     record {
       puts = λ h. let g = k (omega (arith, h)) in record { counted = let e = g .0 in omega (arith, e, h); stand = g .1 ∙ ap (λ z. set A z (laneOf lane t)) (sym (g .0)) };
     }
+
+-- the same tokens, told otherwise
+pub puts-as : {lane : ℕ} {A A' : List ℕ} {from to : ℕ} {ts us : List Tok} → us ≡ ts → Puts lane A A' from to ts → Puts lane A A' from to us
+puts-as {lane} {A} {A'} {from} {to} e p = subst⁻¹ (λ z. Puts lane A A' from to z) e p
