@@ -15,8 +15,9 @@ case " \$* " in *" -O3 "*) for a in "\$@"; do case \$a in *.bc) cp "\$a" "$T/cap
 exec "$K/toolchain/bin/clang" "\$@"
 EOF
 chmod +x "$T/tc/bin/clang"; rm -f "$T/cap/module.bc"
+cp "$H/tryread.txt" "$T/tryread.rt"
 LIBS=(); for d in $(sed -n 's/^reader: *//p' "$R/crates.txt"); do LIBS+=(--lib "$d=$C/$d/src/lib.rt"); done
-"$K/bin/rattle-cases" --toolchain "$T/tc" "$H/tryread.rt" --crate-name tryread --lib "std=$L/std/src/lib.rt" --lib "check=$L/check/src/lib.rt" "${LIBS[@]}" --lib "reader=$C/reader/src/lib.rt" > "$T/cap/log" 2>&1 || { cat "$T/cap/log"; exit 1; }
+"$K/bin/rattle-cases" --toolchain "$T/tc" "$T/tryread.rt" --crate-name tryread --lib "std=$L/std/src/lib.rt" --lib "check=$L/check/src/lib.rt" "${LIBS[@]}" --lib "reader=$C/reader/src/lib.rt" > "$T/cap/log" 2>&1 || { cat "$T/cap/log"; exit 1; }
 CC=$K/toolchain/bin/clang; F="--target=x86_64-unknown-linux-gnu"
 "$CC" $F -x ir "$T/cap/module.bc" -S -emit-llvm -O0 -o "$T/cap/m.ll"
 sed -i -e 's/define internal void @"reader::read"(/define void @reader_read(/' -e 's/@"reader::read"(/@reader_read(/g' -e 's/define i32 @main()/define i32 @rattle_main()/' "$T/cap/m.ll"
