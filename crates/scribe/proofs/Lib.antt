@@ -8,3 +8,4 @@ pub mod Spelt
 pub mod Lists
 pub mod Clauses
 pub mod Leading
+pub mod Command
