@@ -9,3 +9,4 @@ pub mod Lists
 pub mod Clauses
 pub mod Leading
 pub mod Command
+pub mod Length
