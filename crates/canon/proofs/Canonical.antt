@@ -91,7 +91,7 @@ canonical {x = x} w =
 
 -- ── two commands ──
 -- a list is one command at most
-one-tree : (ts : List Tok) (x y : Tree) → IsCommand ts x → IsCommand ts y → x ≡ y
+pub one-tree : (ts : List Tok) (x y : Tree) → IsCommand ts x → IsCommand ts y → x ≡ y
 one-tree ts x y d e = unambiguous G (any Command) (FollowOf sql) sql-laws ts x y d e
 
 pub equal-writings : {K T L U : List ℕ} {x y : Tree} → Accepted K T x → Accepted L U y → EqualWritings x y

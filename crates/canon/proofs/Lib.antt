@@ -26,3 +26,4 @@ pub mod FirstNames
 pub mod AllSteps
 pub mod Drive
 pub mod Canonical
+pub mod Calls
