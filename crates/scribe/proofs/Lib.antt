@@ -8,5 +8,7 @@ pub mod Spelt
 pub mod Lists
 pub mod Clauses
 pub mod Leading
+pub mod Parts
+pub mod Turns
 pub mod Command
 pub mod Length
