@@ -14,7 +14,7 @@ use Rattle.descent.proofs.Walk.{Walked, done, stop, spent, commandW}
 use Rattle.descent.proofs.Fill.{fill, Filled}
 use Rattle.descent.proofs.Answers.{stopped, walked, too-long}
 use Rattle.reader.specs.Answers.{Few}
-use Rattle.reader.specs.Bounds.{Lists, kindsOf, tokens as tokensOf, Ends, WithinAt, Within}
+use Rattle.reader.specs.Bounds.{Lists, kindsOf, tokens as tokensOf, WithinAt, Within}
 use Rattle.reader.specs.Laying.{LaidAt, Laid, Later}
 use Rattle.reader.specs.declared.Cursor.{Cursor}
 use Rattle.reader.specs.declared.Step.{Step}
