@@ -1,5 +1,5 @@
 -- Tables that are filled by parts. _then_: what two parts put is what both put. filled-laid: a table that is filled from its first number
--- on is the one that the promise names. Assumes nothing.
+-- on is the one that the promise names. numbers-on, length-numbers: the numbers of records. Assumes nothing.
 use mathlib.Core.List.{List, [], _∷_, _++_, append-assoc}
 use mathlib.Core.Path.{_≡_, refl, sym, ap, _∙_}
 use Prim.Native.Nat.{ℕ, suc, _+_, _*_, _≤_, min}
@@ -9,6 +9,18 @@ use Rattle.grammar.specs.Sizes.{WIDTH}
 use Rattle.grammar.specs.Nodes.{Rec, rec, numbers, laid}
 use Rattle.descent.proofs.Fill.{put, fill, Filled}
 
+-- ── numbers ──
+pub numbers-on : (rs qs : List Rec) → numbers (rs ++ qs) ≡ numbers rs ++ numbers qs
+unfolding numbers
+numbers-on [] qs = refl
+numbers-on (rec c d n s ∷ rs) qs = ap (λ (l : List ℕ). c ∷ d ∷ n ∷ s ∷ l) (numbers-on rs qs)
+
+pub length-numbers : (rs : List Rec) → length (numbers rs) ≡ WIDTH * length rs
+unfolding numbers
+length-numbers [] = refl
+length-numbers (rec c d n s ∷ rs) = let i = length-numbers rs in omega (arith, i)
+
+-- ── parts ──
 pub length-fill : (N : List ℕ) (m : ℕ) (rs : List Rec) → length (fill N m rs) ≡ length N
 unfolding fill
 length-fill N m [] = refl

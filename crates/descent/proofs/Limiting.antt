@@ -91,7 +91,7 @@ module _ (K T : List ℕ) (good : Good K T) (f : ℕ) where
       (λ y. told-choose (eqb (kindAt K a) COMMA) _ (done a 0 0 (rs ++ (missing ∷ [])))
       (λ v. told-bind (exprW K T f (a + 1) c 1) _ (offset-then ok a c commaRow (ap (enterOf sql (any Offset?)) (eqb-eq (kindAt K a) COMMA v) ∙ Offset-at-COMMA) refl refl refl)
       (λ b s m qs q. let w = two (value (q .0) .nodes) (beside (value (p .0) .nodes) end) (value (node limitRow nil (tokAt K T at) (add (add nil (p .0)) (node commaRow nil (tokAt K T a) (add nil (q .0)))))) (q .2 .0) (single-end (p .0) (p .2 .single)) (with-comma (tokAt K T at) (tokAt K T a) (p .0) (q .0)) in
-      told-done b s m (qs ++ rs) (node limitRow nil (tokAt K T at) (add (add nil (p .0)) (node commaRow nil (tokAt K T a) (add nil (q .0)))), ended (p .0) _ a first b (q .1), (rw (p .3, q .2 .1) (sym (w .0 ∙ ap (λ z. recs (value (q .0)) ++ z) (records-beside (value (p .0) .nodes) end ∙ append-nil _))), w .1)))
+      told-done b s m _ (node limitRow nil (tokAt K T at) (add (add nil (p .0)) (node commaRow nil (tokAt K T a) (add nil (q .0)))), ended (p .0) _ a first b (q .1), (rw (p .3, q .2 .1) (sym (w .0 ∙ ap (λ z. recs (value (q .0)) ++ z) (records-beside (value (p .0) .nodes) end ∙ append-nil _))), w .1)))
       (λ m r e. first ∙ nt-refused K T (good .sound) F (any Offset?) [] (add nil (p .0)) a (rw (below-part limitRow c refl refl) e)))
       (λ v. let w = two (value (p .0) .nodes) (none-there .nodes) (value (node limitRow nil (tokAt K T at) (add (add nil (p .0)) nil))) (p .2 .single) (node-absent, 0, end, refl) (alone (tokAt K T at) (p .0)) in
       told-done a 0 0 (rs ++ (missing ∷ [])) (

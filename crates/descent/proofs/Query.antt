@@ -109,7 +109,7 @@ module _ (K T : List ℕ) (good : Good K T) (f : ℕ) where
       (λ a x n rs p. let b = p .8 in
       told-bind (tailW K T f a (opening c)) _ (ta a (opening c) (record { c = c; A = A; r = p .0; l = nil; t = tokAt K T at }) is (p .1) (p .7))
       (λ d x n qs q. let vs = b .body ∷ opt (value (q .0)) ∷ limitAndOffset (value (q .1)) ∷ [] in let k = add (add (p .1) (q .0)) (q .1) in
-      told-done d 0 0 (over 1 0 4 0 (rs ++ qs)) (
+      told-done d 0 0 _ (
         p .0,
         k,
         p .2 ∙ q .2,

@@ -49,7 +49,7 @@ module _ (K T : List ℕ) (good : Good K T) (f : ℕ) where
   selected-ok co cl at c detail F is k e = let clauses = nt (any From?) ∷ nt (any Where?) ∷ nt (any Group?) ∷ nt (any Having?) ∷ is in
       told-bind (colsW K T f at c 0) _ (co at c 0 F clauses k e)
       (λ a x n rs p. told-bind (partsW K T f a c) _ (cl a c F is (add (add k (p .0)) (p .1)) e)
-      (λ b x m qs q. told-done b 0 0 (over 2 detail 5 0 (over 4 0 n 0 rs ++ qs)) (
+      (λ b x m qs q. told-done b 0 0 _ (
         p .0,
         p .1,
         q .0,

@@ -1,4 +1,5 @@
--- From what the two walks of a call lay to the promise: of lists that are lent and fit. Assumes nothing.
+-- From what the two walks of a call lay to the promise: of lists that are lent and fit. few-refused, few-got: from their bounds to what the
+-- places are within. Assumes nothing.
 use mathlib.Core.Bool.{Bool, true, false}
 use mathlib.Core.List.{List, [], _∷_}
 use mathlib.Core.Path.{_≡_, refl, sym, ap, _∙_, subst, subst⁻¹}
@@ -12,11 +13,14 @@ use Rattle.grammar.specs.Promise.{tokens, Lent, AllFit, Reads}
 use Rattle.descent.proofs.Walk.{Walked, done, stop, spent, commandW}
 use Rattle.descent.proofs.Fill.{fill, Filled}
 use Rattle.descent.proofs.Answers.{stopped, walked, too-long}
+use Rattle.reader.specs.Answers.{Few}
+use Rattle.reader.specs.Bounds.{Lists, kindsOf, tokens as tokensOf, WithinAt, Within}
 use Rattle.reader.specs.Laying.{LaidAt, Laid, Later}
 use Rattle.reader.specs.declared.Cursor.{Cursor}
 use Rattle.reader.specs.declared.Step.{Step}
 use Rattle.reader.specs.declared.Step.the-variants as step
 use Rattle.reader.proofs.Laying.{laid-in, stopped-in}
+use Rattle.reader.proofs.Steps.{got-in}
 
 -- the records of a walk that is done
 recordsIn : Walked → List Rec
@@ -63,3 +67,13 @@ module _ {K T N N' : List ℕ} (lent : Lent K T) (fit : AllFit (tokens K T)) {M 
         let room : WIDTH * length (x .0) ≤ length N = omega (arith, h, k, j) in
         let t : N' ≡ fill N 0 (x .0) = filled-by N N' (commandW K T f) q (subst (λ (z : List ℕ). LaidAt 0 z N' (commandW K T f) q) i (second .holds f (omega arith) .holds)) (x .1) room in
         subst (λ z. Reads K T N 0 z N') k (subst⁻¹ (λ (z : List ℕ). Reads K T N 0 (length (x .0)) z) t (walked K T N lent fit f (x .1) room))
+
+-- what a walk from the first token is within
+module _ {io : Lists} {r : Step} (w : Within 1 4 io 0 0 r) where
+  pub few-refused : {m p : ℕ} → r ≡ step.Refused m p → Few (kindsOf io) p
+  unfolding tokensOf
+  few-refused {p = p} e = let h : p ≤ length (kindsOf io) = subst (λ (s : Step). WithinAt 1 4 io 0 0 s) e (w .holds) in omega (arith, h)
+
+  pub few-got : {s n p : ℕ} {d : Cursor} → r ≡ step.Got s n d → p ≡ d .made → Few (kindsOf io) p
+  unfolding tokensOf
+  few-got {d = d} e i = let b = got-in w e in let h : d .at ≤ length (kindsOf io) = b .inside in let k = b .room in omega (arith, h, k, i)

@@ -37,10 +37,6 @@ module _ {made : ℕ} {N N' : List ℕ} {w : Walked} {r : Step} where
   pub stopped-in : {m p : ℕ} → Laid made N N' w r → r ≡ step.Refused m p → w ≡ stop m p
   stopped-in l e = subst (λ (s : Step). LaidAt made N N' w s) e (l .holds)
 
-  -- the answer of one of two ways
-  pub laid-as : {r' : Step} → r ≡ r' → Laid made N N' w r' → Laid made N N' w r
-  laid-as e l = subst⁻¹ (λ (s : Step). Laid made N N' w s) e l
-
 -- the answer and the table of one of two ways
 pub laid-joined : {made : ℕ} {N N' M : List ℕ} {w : Walked} {r q : Step} → N' ≡ M → r ≡ q → Laid made N M w q → Laid made N N' w r
 laid-joined {made} {N} {N'} {M} {w} {r} {q} e d l = subst⁻¹ (λ (z : List ℕ). Laid made N z w r) e (subst⁻¹ (λ (s : Step). Laid made N M w s) d l)
@@ -91,11 +87,6 @@ ontoAt made m N N₁ N' rs w (step.Refused n p) f l = ap (onto rs) l
 pub behind : {made m : ℕ} {N N₁ N' : List ℕ} {r : Step} (rs : List Rec) (w : Walked) → Filled N N₁ made m rs → Laid m N₁ N' w r → Laid made N N' (onto rs w) r
 behind {made} {m} {N} {N₁} {N'} {r} rs w f l = record { holds = ontoAt made m N N₁ N' rs w r f (l .holds) }
 
--- a refusal of what comes after records
-pub behind-halts : {made m : ℕ} {M M' N N' : List ℕ} {r : Step} {j p : ℕ} (rs : List Rec) (w : Walked) → Laid m M M' w r → r ≡ step.Refused j p → Laid made N N' (onto rs w) r
-unfolding onto
-behind-halts rs w l e = halted e (ap (onto rs) (stopped-in l e))
-
 -- ── records ──
 pub filled-as : {N N' : List ℕ} {m k : ℕ} {rs qs : List Rec} → rs ≡ qs → Filled N N' m k rs → Filled N N' m k qs
 filled-as {N} {N'} {m} {k} e f = subst (λ z. Filled N N' m k z) e f
@@ -110,13 +101,6 @@ capped {made = made} {m = m} {c = c} {d = d} {n = n} {rs = rs} base pre b f g = 
 -- a record over all since `made`
 pub topped : {N N₁ N₂ : List ℕ} {made m m' c d n : ℕ} {rs : List Rec} → Filled N N₁ made m rs → Filled N₁ N₂ m m' (one c d n (m - made + 1)) → Filled N N₂ made m' (over c d n 0 rs)
 topped {made = made} f g = capped made 0 (omega arith) f g
-
--- how many records were put
-pub put-since : {N N' : List ℕ} {made m : ℕ} {rs : List Rec} → Filled N N' made m rs → length rs ≡ m - made
-put-since {made = made} {m = m} {rs = rs} f = since (f .counted)
-  where
-    since : m ≡ made + length rs → length rs ≡ m - made
-    since e = omega (arith, e)
 
 -- a record over `pre` alone
 pub closed : {N N' : List ℕ} {made m c d n : ℕ} (base pre : ℕ) → made ≡ base + pre → Filled N N' made m (one c d n (made - base + 1)) → Filled N N' made m (one c d n (pre + 1))

@@ -2,26 +2,15 @@
 -- the second records before the first. Assumes nothing.
 use mathlib.Core.List.{List, [], _∷_, _++_, append-assoc, reverse, reverse-cons, reverse-append, reverse-reverse}
 use mathlib.Core.Path.{_≡_, refl, sym, ap, _∙_}
-use Prim.Native.Nat.{ℕ, suc, _+_, _*_, _<_, _≤_, _-_, min}
+use Prim.Native.Nat.{ℕ, _+_, _*_, _<_, _≤_, _-_, min}
 use lib.ListN.{length, set, getD, length-set, length-append, length-reverse, take, drop, take-append-drop, length-take, length-drop, List·getD-append}
 use lib.Seq.{getD-append-add, set-append-left}
 use native.Mathlib.Omega.{arith}
 use Rattle.grammar.specs.Sizes.{WIDTH}
 use Rattle.grammar.specs.Nodes.{Rec, rec, numbers}
 use Rattle.descent.proofs.Fill.{fill, Filled}
-use Rattle.descent.proofs.Filling.{set-on, fill-at, length-fill}
+use Rattle.descent.proofs.Filling.{numbers-on, length-numbers, set-on, fill-at, length-fill}
 use Rattle.reader.specs.Turning.{swappedAt, Turned}
-
--- ── numbers ──
-numbers-append : (rs qs : List Rec) → numbers (rs ++ qs) ≡ numbers rs ++ numbers qs
-unfolding numbers
-numbers-append [] qs = refl
-numbers-append (rec c d n s ∷ rs) qs = ap (λ (l : List ℕ). c ∷ d ∷ n ∷ s ∷ l) (numbers-append rs qs)
-
-length-numbers : (rs : List Rec) → length (numbers rs) ≡ length rs * WIDTH
-unfolding numbers
-length-numbers [] = refl
-length-numbers (rec c d n s ∷ rs) = omega (arith, length-numbers rs)
 
 -- ── one exchange ──
 -- the numbers numbered i of P and of Q
@@ -71,7 +60,7 @@ exchange hs ms cs c d n s c' d' n' s' a b e f =
 end-numbers : (c d n s : ℕ) (ms : List Rec) (c' d' n' s' : ℕ) (cs : List ℕ) → numbers (rec c d n s ∷ (ms ++ (rec c' d' n' s' ∷ []))) ++ cs ≡ c ∷ d ∷ n ∷ s ∷ (numbers ms ++ (c' ∷ d' ∷ n' ∷ s' ∷ cs))
 unfolding numbers
 end-numbers c d n s ms c' d' n' s' cs =
-    ap (λ (t : List ℕ). c ∷ d ∷ n ∷ s ∷ t) (ap (λ (t : List ℕ). t ++ cs) (numbers-append ms (rec c' d' n' s' ∷ [])) ∙ append-assoc (numbers ms) (c' ∷ d' ∷ n' ∷ s' ∷ []) cs)
+    ap (λ (t : List ℕ). c ∷ d ∷ n ∷ s ∷ t) (ap (λ (t : List ℕ). t ++ cs) (numbers-on ms (rec c' d' n' s' ∷ [])) ∙ append-assoc (numbers ms) (c' ∷ d' ∷ n' ∷ s' ∷ []) cs)
 
 turned-ends : (r q : Rec) (ms : List Rec) → reverse (r ∷ (ms ++ (q ∷ []))) ≡ q ∷ (reverse ms ++ (r ∷ []))
 turned-ends r q ms = reverse-cons r (ms ++ (q ∷ [])) ∙ ap (λ (t : List Rec). t ++ (r ∷ [])) (reverse-append ms (q ∷ []))
@@ -79,7 +68,7 @@ turned-ends r q ms = reverse-cons r (ms ++ (q ∷ [])) ∙ ap (λ (t : List Rec)
 on-ends : (hs : List ℕ) (r q : Rec) (ms : List Rec) (cs N E : List ℕ) (a b : ℕ) → N ≡ hs ++ (numbers (r ∷ (ms ++ (q ∷ []))) ++ cs) → length hs ≡ a → b ≡ a + 4 + length ms * WIDTH → E ≡ hs ++ (numbers (reverse (r ∷ (ms ++ (q ∷ [])))) ++ cs) → Turned (exchanged N a b) (a + 4) b E
 on-ends hs (rec c d n s) (rec c' d' n' s') ms cs N E a b e l m g =
     let four : List ℕ = c' ∷ d' ∷ n' ∷ s' ∷ [] in
-    let k : length (numbers ms) ≡ length ms * WIDTH = length-numbers ms in
+    let k : length (numbers ms) ≡ WIDTH * length ms = length-numbers ms in
     let f : length (hs ++ four) ≡ length hs + length four = length-append hs four in
     record {
       fore = hs ++ four;
@@ -140,7 +129,7 @@ turn-one N N' hs ms cs m k f e l h =
     f (hs ++ (numbers (reverse ms) ++ cs)) record { fore = hs; turning = ms; aft = cs; now-is = e; fore-long = l; turning-long = omega (arith, h); then-is = refl }
 
 side-by-side : (hs cs : List ℕ) (rs qs : List Rec) → hs ++ (numbers (rs ++ qs) ++ cs) ≡ hs ++ (numbers rs ++ (numbers qs ++ cs))
-side-by-side hs cs rs qs = ap (λ (t : List ℕ). hs ++ t) (ap (λ (t : List ℕ). t ++ cs) (numbers-append rs qs) ∙ append-assoc (numbers rs) (numbers qs) cs)
+side-by-side hs cs rs qs = ap (λ (t : List ℕ). hs ++ t) (ap (λ (t : List ℕ). t ++ cs) (numbers-on rs qs) ∙ append-assoc (numbers rs) (numbers qs) cs)
 
 turned-both : (rs qs : List Rec) → reverse (reverse rs ++ reverse qs) ≡ qs ++ rs
 turned-both rs qs = reverse-append (reverse rs) (reverse qs) ∙ ap (λ (t : List Rec). t ++ reverse (reverse rs)) (reverse-reverse qs) ∙ ap (λ (t : List Rec). qs ++ t) (reverse-reverse rs)
@@ -151,7 +140,7 @@ thrice T T₁ T₂ T₃ hs cs rs qs m k e f₁ f₂ f₃ t l p q =
     let qs' : List Rec = reverse qs in
     let lr : length rs' ≡ length rs = length-reverse rs in
     let lq : length qs' ≡ length qs = length-reverse qs in
-    let ln : length (numbers rs') ≡ length rs' * WIDTH = length-numbers rs' in
+    let ln : length (numbers rs') ≡ WIDTH * length rs' = length-numbers rs' in
     let lh : length (hs ++ numbers rs') ≡ length hs + length (numbers rs') = length-append hs (numbers rs') in
     let lb : length (rs' ++ qs') ≡ length rs' + length qs' = length-append rs' qs' in
     let t₁ : T₁ ≡ hs ++ (numbers rs' ++ (numbers qs ++ cs)) = turn-one T T₁ hs rs (numbers qs ++ cs) m k f₁ (t ∙ side-by-side hs cs rs qs) l p in

@@ -12,6 +12,7 @@ use lib.ListN.{length, getD}
 use borrow.Author.Tests.{eq-eqb, eqb-true, ltb-false}
 use denote.Ref.{RefT, now}
 use mir.Val.{boolByte}
+use Rattle.kinds.proofs.StrengthTable.{past}
 use Rattle.reader.specs.Bounds.{Lists, kindsOf, textsOf, strengthsOf, greatestLike, tokens, texts, likes, Seen}
 
 kinds-is : (io : Lists) (d : RefT (List ℕ)) → d .now ≡ [] → kindsOf io ≡ (getD io 0 d) .now
@@ -39,14 +40,9 @@ seen io d at v e p q =
       there = subst⁻¹ (λ (l : List ℕ). v ≤ 4294967295 * (length l - at)) (kinds-is io d e) q;
     }
 
-past : (l : List ℕ) (at : ℕ) → length l ≤ at → 0 ≡ getD l at 0
-past [] at h = refl
-past (x ∷ l) zero h = absurd (omega arith)
-past (x ∷ l) (suc at) h = past l at (omega arith)
-
 -- .. and past their end
 pub unseen : (io : Lists) (d : RefT (List ℕ)) (at : ℕ) → d .now ≡ [] → length ((getD io 0 d) .now) ≤ at → Seen io at 0
-unseen io d at e h = seen io d at 0 e (past ((getD io 0 d) .now) at h) zero-le
+unseen io d at e h = seen io d at 0 e (sym (past ((getD io 0 d) .now) at h)) zero-le
 
 -- a place that has a text
 pub has-text : (io : Lists) (d : RefT (List ℕ)) (at : ℕ) → d .now ≡ [] → at < texts io → at < length ((getD io 1 d) .now)

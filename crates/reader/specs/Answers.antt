@@ -1,5 +1,7 @@
 -- 01's number and place of an answer. "Acceptance is number 0; its place is the count of records".
-use Prim.Native.Nat.{ℕ}
+use mathlib.Core.List.{List}
+use Prim.Native.Nat.{ℕ, _+_, _*_, _≤_}
+use lib.ListN.{length}
 use Rattle.reader.specs.declared.Answer.{Answer}
 use Rattle.reader.specs.declared.Answer.the-variants as answer
 
@@ -10,3 +12,7 @@ number (answer.Refused m p) = m
 abbrev pub place : Answer → ℕ
 place (answer.Accepted n) = n
 place (answer.Refused m p) = p
+
+-- a place is small by the tokens' count: at most eight records for each token, and eight; so what a table must hold is known beforehand
+abbrev pub Few : List ℕ → ℕ → Type 0
+Few K p = p ≤ 8 * (length K + 1)

@@ -1,11 +1,13 @@
 -- A node's record in the table: its four numbers, its children, and what stands before it. Assumes nothing.
 use mathlib.Core.List.{List, [], _∷_, _++_, append-assoc}
-use mathlib.Core.Path.{_≡_, refl, sym, ap, _∙_, subst}
-use Prim.Native.Nat.{ℕ, zero, suc, _+_, _-_, _*_, _≤_, _<_}
+use mathlib.Core.Path.{_≡_, sym, ap, _∙_}
+use Prim.Native.Nat.{ℕ, _+_, _-_, _*_, _≤_, _<_}
 use lib.ListN.{length, getD, length-append}
+use lib.Seq.{getD-append-add}
 use native.Mathlib.Omega.{arith}
 use Rattle.grammar.specs.Sizes.{WIDTH}
-use Rattle.grammar.specs.Nodes.{Nodes, end, mk, count, beside, Rec, rec, records, numbers}
+use Rattle.grammar.specs.Nodes.{Nodes, end, mk, count, beside, rec, records, numbers}
+use Rattle.descent.proofs.Filling.{numbers-on, length-numbers}
 use Rattle.descent.proofs.Growing.{records-beside}
 use Rattle.scribe.proofs.Standing.{Stands}
 
@@ -22,21 +24,6 @@ last-of (mk c d ks ns) = go c d ks ns (last-of ns)
     go : (c d : ℕ) (ks ns : Nodes) → Last ns → Last (mk c d ks ns)
     go c d ks end none = then-one end c d ks
     go c d ks ns (then-one ms c' d' ks') = then-one (mk c d ks ms) c' d' ks'
-
-length-numbers : (rs : List Rec) → length (numbers rs) ≡ WIDTH * length rs
-unfolding numbers
-length-numbers [] = refl
-length-numbers (rec c d n s ∷ rs) = let i = length-numbers rs in omega (arith, i)
-
-numbers-on : (rs qs : List Rec) → numbers (rs ++ qs) ≡ numbers rs ++ numbers qs
-unfolding numbers
-numbers-on [] qs = refl
-numbers-on (rec c d n s ∷ rs) qs = ap (λ z. c ∷ d ∷ n ∷ s ∷ z) (numbers-on rs qs)
-
--- the entry at a place behind hs
-getD-on : (hs xs : List ℕ) (j : ℕ) → getD (hs ++ xs) (length hs + j) 0 ≡ getD xs j 0
-getD-on [] xs j = ap (λ z. getD xs z 0) (omega arith)
-getD-on (h ∷ hs) xs j = ap (λ z. getD (h ∷ (hs ++ xs)) z 0) (let e : length (h ∷ hs) + j ≡ suc (length hs + j) = omega arith in e) ∙ getD-on hs xs j
 
 -- the record's own numbers, after those of the nodes before it and of its children
 pub record Found (N : List ℕ) (i c d : ℕ) (ks : Nodes) : Type 0 where
@@ -93,7 +80,7 @@ module _ {N : List ℕ} {i : ℕ} (ms : Nodes) (c d : ℕ) (ks : Nodes) (s : Sta
       let same : N ≡ hs ++ (c ∷ d ∷ count ks ∷ (length (records ks) + 1) ∷ s .aft)
       = laid-out ∙ sym (append-assoc (s .fore) (numbers (records ms)) (numbers (records ks) ++ (c ∷ d ∷ count ks ∷ (length (records ks) + 1) ∷ s .aft)))
       ∙ sym (append-assoc (s .fore ++ numbers (records ms)) (numbers (records ks)) (c ∷ d ∷ count ks ∷ (length (records ks) + 1) ∷ s .aft)) in
-      ap (λ z. getD z (WIDTH * (i - 1) + j) 0) same ∙ ap (λ z. getD (hs ++ (c ∷ d ∷ count ks ∷ (length (records ks) + 1) ∷ s .aft)) z 0) at ∙ getD-on hs (c ∷ d ∷ count ks ∷ (length (records ks) + 1) ∷ s .aft) j
+      ap (λ z. getD z (WIDTH * (i - 1) + j) 0) same ∙ ap (λ z. getD (hs ++ (c ∷ d ∷ count ks ∷ (length (records ks) + 1) ∷ s .aft)) z 0) at ∙ getD-append-add hs (c ∷ d ∷ count ks ∷ (length (records ks) + 1) ∷ s .aft) j 0
 
   pub found : Found N i c d ks
   found =

@@ -45,7 +45,7 @@ fit-requires c κs = search needs
 
 -- src/lib.rt:1533:13
 returns : tie.Need-returns Inv-loop μ-loop
-returns c = λ n. first-unfit (c .before .before .before .before .before .before .before .before .args .kinds .now) (c .before .before .before .before .before .before .before .before .args .texts .now) (c .before .before .before .before .before .loop .i) (omega arith) (omega arith) (c .before .before .before .before .before .loop .inv .1) (sym (c .before .fit .ensures) ∙ not-true _ (c .if1 .taken))
+returns c = (omega arith, λ n. first-unfit (c .before .before .before .before .before .before .before .before .args .kinds .now) (c .before .before .before .before .before .before .before .before .args .texts .now) (c .before .before .before .before .before .loop .i) (omega arith) (omega arith) (c .before .before .before .before .before .loop .inv .1) (sym (c .before .fit .ensures) ∙ not-true _ (c .if1 .taken)))
 
 -- src/lib.rt:1535:9
 add-i : tie.Need-add-i Inv-loop μ-loop
@@ -61,7 +61,7 @@ loop-again c = (omega arith, below-more (FitAt (c .before .before .before .befor
 
 -- src/lib.rt:1527:1
 returns-2 : tie.Need-returns-2 Inv-loop μ-loop
-returns-2 c = λ n. absurd (n (all-below (c .before .before .before .before .args .kinds .now) (c .before .before .before .before .args .texts .now) (λ j l. c .before .loop .inv .1 j (omega arith))))
+returns-2 c = (omega arith, λ n. absurd (n (all-below (c .before .before .before .before .args .kinds .now) (c .before .before .before .before .args .texts .now) (λ j l. c .before .loop .inv .1 j (omega arith)))))
 
 pub unfit-spec : {M : Type 1} → statement M
 unfit-spec =
