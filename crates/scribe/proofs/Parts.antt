@@ -128,9 +128,12 @@ rowToks C t N i w = parted t (P (w .kids))
 abbrev pub termsToks : (N : List ℕ) (i : ℕ) → Terms N i → List Tok
 termsToks N i t = parted (tok COMMA) (P (t .row .kids))
 
+abbrev pub innerToks : (N : List ℕ) (i : ℕ) → Inside N i → List Tok
+innerToks N i (a-query w) = pieceAt (w .whole) .toks
+innerToks N i (members t h) = termsToks N i t
+
 abbrev pub insideToks : (N : List ℕ) (i : ℕ) → Inside N i → List Tok
-insideToks N i (a-query w) = within (pieceAt (w .whole) .toks)
-insideToks N i (members t h) = within (termsToks N i t)
+insideToks N i x = within (innerToks N i x)
 
 abbrev pub perhapsToks : (k : ℕ) (N : List ℕ) (i : ℕ) → Perhaps N i → List Tok
 perhapsToks k N i (not-any h e) = []

@@ -1,0 +1,4 @@
+mod Leaves
+mod Said
+mod Small
+mod Moves
