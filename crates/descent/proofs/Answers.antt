@@ -2,6 +2,7 @@
 -- So the reader keeps its promise once its functions do their walk. Assumes nothing.
 use mathlib.Core.Bool.{Bool, true, false, _&&_}
 use mathlib.Core.List.{List, [], _∷_}
+use mathlib.Core.Logic.{inl, inr}
 use mathlib.Core.Path.{_≡_, refl, sym, ap, _∙_, subst}
 use Prim.Native.Nat.{ℕ, zero, suc, _+_, _*_, _<_, _≤_}
 use lib.Dec.{leb}
@@ -73,6 +74,17 @@ module _ (K T N : List ℕ) (l : Lent K T) (u : AllFit (tokens K T)) where
   stopped f {m} {p} e =
       let q : parsed (tokens K T) ≡ refused m p = subst (λ w. ToldCase w (λ a s n rs. Tree-of K T rs) (λ m p. parsed (tokens K T) ≡ refused m p)) e (said K T (lent-good K T l u) f) in
       is-answered K T N l u (refused m p) (outcome-of (refused m p) q)
+
+  -- .. with a number
+  pub stopped-some : (f : ℕ) {m p : ℕ} → commandW K T f ≡ stop m p → 0 < m
+  stopped-some f {m} {p} e =
+      let q : parsed (tokens K T) ≡ refused m p = subst (λ w. ToldCase w (λ a s n rs. Tree-of K T rs) (λ m p. parsed (tokens K T) ≡ refused m p)) e (said K T (lent-good K T l u) f) in
+      some-number (outcome-of (refused m p) q)
+    where
+      some-number : Outcome Around under judge G outer (any Command) (tokens K T) (refused m p) → 0 < m
+      some-number (inl o) = let h = o .0 in omega (arith, h)
+      some-number (inr (inl o)) = let h = o .0 in omega (arith, h)
+      some-number (inr (inr o)) = let h = o .7 .5 in omega (arith, h)
 
   -- acceptance, and refusal 9
   module _ (f : ℕ) {a s n : ℕ} {rs : List Rec} (e : commandW K T f ≡ done a s n rs) where

@@ -12,7 +12,7 @@ use Rattle.grammar.specs.Nodes.{Rec}
 use Rattle.grammar.specs.Promise.{tokens, Lent, AllFit, Reads}
 use Rattle.descent.proofs.Walk.{Walked, done, stop, spent, commandW}
 use Rattle.descent.proofs.Fill.{fill, Filled}
-use Rattle.descent.proofs.Answers.{stopped, walked, too-long}
+use Rattle.descent.proofs.Answers.{stopped, stopped-some, walked, too-long}
 use Rattle.reader.specs.Answers.{Few}
 use Rattle.reader.specs.Bounds.{Lists, kindsOf, tokens as tokensOf, WithinAt, Within}
 use Rattle.reader.specs.Laying.{LaidAt, Laid, Later}
@@ -42,6 +42,9 @@ filled-by N N' w (step.Got s n d) {rs = rs} l e h =
     let k : length (l .0) ≡ length rs = ap length same in
     l .2 .stand (omega (arith, h, c, k)) ∙ ap (fill N 0) same
 filled-by N N' w (step.Refused m p) l e h = 0≢1 (ap isDone (sym l ∙ e))
+
+pub refused-some : {K T : List ℕ} (lent : Lent K T) (fit : AllFit (tokens K T)) {M M' : List ℕ} {r : Step} (first : Later (λ f. Laid 0 M M' (commandW K T f) r)) {m p : ℕ} → r ≡ step.Refused m p → 0 < m
+refused-some {K} {T} lent fit first e = let f : ℕ = first .least in stopped-some K T [] lent fit f (stopped-in (first .holds f (omega arith)) e)
 
 module _ {K T N N' : List ℕ} (lent : Lent K T) (fit : AllFit (tokens K T)) {M M' : List ℕ} {r : Step} (first : Later (λ f. Laid 0 M M' (commandW K T f) r)) where
   pub refused-so : {m p : ℕ} → r ≡ step.Refused m p → N' ≡ N → Reads K T N m p N'

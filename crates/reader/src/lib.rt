@@ -15,7 +15,7 @@ ghost use Rattle.descent.proofs.Walk.{done, bind, deeper, nameRec, nameW, close
 ghost use Rattle.reader.specs.Laying.{Laid, Lays, Later, Passes, Does, Misfit, TooDeep, one, absences, nameAt, literalText, notNullW, allRowsW, isBare, beginsJoin, FitLists, UnfitAt};
 ghost use Rattle.reader.specs.Turning.{swappedAt, Turned};
 ghost use Rattle.reader.specs.Bounds.{tokens, kindsOf, textsOf, greatestLike, queriesOf, strengthAsked, Asks, Ready, Seen, Within, Refuses, OneOn, Opens, NullBefore, gotOf, refusalOf, unruled};
-ghost use Rattle.reader.specs.Answers.{number, place, Few};
+ghost use Rattle.reader.specs.Answers.{number, place, Few, Plain};
 ghost use Rattle.grammar.specs.Promise.{Lent, Reads};
 ghost use Rattle.kinds.specs.Strength.{strengthOf, strengthTable};
 use kinds::ALL;
@@ -1624,7 +1624,7 @@ fn command(io: &[&[u32]; 3], nodes: &mut [u32]) -> Step
 // The two walks of lists that are lent and fit.
 fn start<'a>(kinds: &'a [u32], texts: &'a [u32], table: &'a [u32], nodes: &mut [u32]) -> Answer
     requires { ⌜ Lent (now kinds) (now texts) × (greatestLike (now kinds) (now texts) ≤ 3) × FitLists (now kinds) (now texts) × (now table ≡ strengthTable) ⌝ }
-    ensures { λ r. ⌜ Reads (now (kinds .entry)) (now (texts .entry)) (now (nodes .entry)) (number r) (place r) (now (nodes .exit)) × Few (now (kinds .entry)) (place r) ⌝ }
+    ensures { λ r. ⌜ Reads (now (kinds .entry)) (now (texts .entry)) (now (nodes .entry)) (number r) (place r) (now (nodes .exit)) × Few (now (kinds .entry)) (place r) × Plain r ⌝ }
 {
     let io = [kinds, texts, table];
     let first = command(&io, &mut nodes[..0]);
@@ -1643,7 +1643,7 @@ fn start<'a>(kinds: &'a [u32], texts: &'a [u32], table: &'a [u32], nodes: &mut [
 
 // Reads the list into records, or refuses it; what is refused leaves the table as it was.
 pub fn read<'a>(kinds: &'a [u32], texts: &'a [u32], nodes: &mut [u32]) -> Answer
-    ensures { λ r. ⌜ Reads (now (kinds .entry)) (now (texts .entry)) (now (nodes .entry)) (number r) (place r) (now (nodes .exit)) × Few (now (kinds .entry)) (place r) ⌝ }
+    ensures { λ r. ⌜ Reads (now (kinds .entry)) (now (texts .entry)) (now (nodes .entry)) (number r) (place r) (now (nodes .exit)) × Few (now (kinds .entry)) (place r) × Plain r ⌝ }
 {
     if kinds.len() != texts.len() {
         return Answer::Refused(1, 0);

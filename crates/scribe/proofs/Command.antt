@@ -6,7 +6,7 @@ use Prim.Native.Nat.{ℕ, _*_, _≤_, _<_}
 use lib.ListN.{length, drop}
 use native.Mathlib.Omega.{arith}
 use Rattle.theory.specs.Trees.{Tok, Tree}
-use Rattle.grammar.specs.Sizes.{WIDTH}
+use Rattle.grammar.specs.Sizes.{WIDTH, TOKENS}
 use Rattle.grammar.specs.Nodes.{Nodes, end, beside, laid}
 use Rattle.grammar.specs.Reading.{choose, reading}
 use Rattle.grammar.specs.Writing.{joined, writing}
@@ -59,6 +59,10 @@ taken (refusal-9 x a n e f g) z = absurd (omega (arith, e, z))
 
 pub whole-read : {K T N : List ℕ} {p : ℕ} {N' : List ℕ} → Reads K T N 0 p N' → Whole aQuery N' p
 whole-read r = taken r refl .query
+
+-- .. of no long list
+pub read-short : {K T N : List ℕ} {p : ℕ} {N' : List ℕ} → Reads K T N 0 p N' → length K ≤ TOKENS
+read-short r = taken r refl .accepted .lent .short
 
 -- ── the call's answers ──
 pub writes-unequal : {K T N A B : List ℕ} → ¬ (length A ≡ length B) → Writes K T N A B 1 0 N A B

@@ -4,7 +4,9 @@ use mathlib.Core.Path.{_≡_, refl, sym, ap, _∙_, subst⁻¹}
 use Prim.Native.Nat.{ℕ, zero, suc, _+_, _-_, _≤_, _<_}
 use lib.ListN.{length, set, length-set, length-append, drop}
 use native.Mathlib.Omega.{arith}
+use borrow.Author.Tests.{ne-eqb}
 use Rattle.theory.specs.Trees.{Tok}
+use Rattle.grammar.specs.Reading.{choose}
 use Rattle.grammar.specs.Promise.{put}
 use Rattle.descent.proofs.Filling.{set-on}
 use Rattle.scribe.proofs.Standing.{laneOf, lanes, written, Wrote, Puts}
@@ -73,3 +75,12 @@ one-put {lane} {A} {to} t {A'} {from} k =
 -- the same tokens, told otherwise
 pub puts-as : {lane : ℕ} {A A' : List ℕ} {from to : ℕ} {ts us : List Tok} → us ≡ ts → Puts lane A A' from to ts → Puts lane A A' from to us
 puts-as {lane} {A} {A'} {from} {to} e p = subst⁻¹ (λ z. Puts lane A A' from to z) e p
+
+-- each lane but the first is that of the texts
+lanes-text : (lane : ℕ) → (lane ≡ 0 → ⊥) → (ts : List Tok) → lanes lane ts ≡ lanes 1 ts
+unfolding choose
+lanes-text lane h [] = refl
+lanes-text lane h (t ∷ ts) = ap (λ b. choose b (t .kind) (t .text) ∷ lanes lane ts) (ne-eqb lane 0 h) ∙ ap (λ z. t .text ∷ z) (lanes-text lane h ts)
+
+pub puts-text : {lane : ℕ} {A A' : List ℕ} {from to : ℕ} {ts : List Tok} → 0 < lane → Puts lane A A' from to ts → Puts 1 A A' from to ts
+puts-text {lane} {A} {from = from} {ts = ts} h p = record { puts = λ l. let w = p .puts l in record { counted = w .counted; stand = w .stand ∙ ap (written A from) (lanes-text lane (λ z. absurd (omega (arith, z, h))) ts) } }

@@ -1,4 +1,4 @@
 mod Leaves
 mod Said
-mod Small
 mod Moves
+mod Calls

@@ -304,11 +304,12 @@ BaredTo io i r = (r ≤ i) × ((t : Term (nodesOf io) i) → (v : Term (nodesOf 
 
 module _ {io : Lists} {i r : ℕ} (b : BaredTo io i r) {c : ℕ} (F : Field 0 io r c) where
   pub bare-on : c ≡ node-parens → {n l : ℕ} → Field 2 io r n → n ≡ 1 → l ≡ r - 1 → BaredTo io i l
-  bare-on e {n} {l} G h k =
-      (let m = b .0 in omega (arith, m, k),
-      (λ t. let v = b .1 t in
-      let p = parens-one (v .0 .whole) (sym (code-of (v .0 .whole) F) ∙ e) (sym (children-of (v .0 .whole) G) ∙ h) in
-      subst⁻¹ (λ z. (v : Term (nodesOf io) z) × (pieceAt (t .whole) ≡ pieceAt (v .whole))) k (expr-term (p .0), v .1 ∙ p .1)))
+  bare-on e {n} {l} G h k = (
+    let m = b .0 in omega (arith, m, k),
+    (λ t. let v = b .1 t in
+        let p = parens-one (v .0 .whole) (sym (code-of (v .0 .whole) F) ∙ e) (sym (children-of (v .0 .whole) G) ∙ h) in
+        subst⁻¹ (λ z. (v : Term (nodesOf io) z) × (pieceAt (t .whole) ≡ pieceAt (v .whole))) k (expr-term (p .0), v .1 ∙ p .1)),
+  )
 
   pub bare-many : c ≡ node-parens → {n : ℕ} → Field 2 io r n → (n ≡ 1 → ⊥) → Bared io i r
   bare-many e G h =

@@ -11,6 +11,7 @@ use Rattle.grammar.specs.Sizes.{WIDTH}
 use Rattle.grammar.specs.NodeNames.{node-parens, node-binary, node-in-list, node-in-query, node-between}
 use Rattle.grammar.specs.Nodes.{count}
 use Rattle.grammar.specs.Writing.{nodeStr}
+use Rattle.grammar.specs.Promise.{Reads, Writes}
 use Rattle.scribe.proofs.Standing.{Puts}
 use Rattle.scribe.proofs.Whole.{pieceAt}
 use Rattle.scribe.proofs.Leading.{backs}
@@ -73,6 +74,10 @@ pub record Closes (c : ℕ) (io : Lists) (A A' : List ℕ) (r to i : ℕ) : Type
 -- .. of BETWEEN
 pub record Bounds (io : Lists) (A A' : List ℕ) (r to i : ℕ) : Type 0 where
   pub told : (w : Coded node-between (nodesOf io) i) → Tailed (w .whole) (laneIn io) A A' r to
+
+-- of a table that holds a command's reading, p records: what a call has yet to do
+abbrev pub Walks : List ℕ → ℕ → List ℕ → List ℕ → ℕ → ℕ → List ℕ → List ℕ → Type 0
+Walks N p A B m c A' B' = (K T M : List ℕ) → Reads K T M 0 p N → Writes K T M A B m c N A' B'
 
 -- the measure of the functions that call one another: where the node ends, then the rank of the function
 abbrev pub rank : ℕ → ℕ → ℕ

@@ -15,16 +15,16 @@ ghost use Rattle.grammar.specs.Writing.{tok, toktext, nodeStr, binaryStr, binar
 ghost use Rattle.grammar.specs.Promise.{Writes};
 ghost use Rattle.canon.proofs.Folds.{P};
 ghost use Rattle.words.specs.Fewest.{present};
-ghost use Rattle.shapes.specs.Shape.{aBody, aFrom, aSource, aConstraint, anExpr, aName, Joining};
+ghost use Rattle.kinds.specs.Strength.{strengthTable};
+ghost use Rattle.shapes.specs.Shape.{aQuery, aBody, aFrom, aSource, aConstraint, anExpr, aName, Joining};
 ghost use Rattle.scribe.proofs.Whole.{Whole, beforeOf};
 ghost use Rattle.scribe.proofs.Kids.{Maybe};
 ghost use Rattle.scribe.proofs.Spelt.{literalKind, nameKind};
 ghost use Rattle.scribe.proofs.Clauses.{codeAt};
 ghost use Rattle.scribe.proofs.Leading.{backs};
 ghost use Rattle.scribe.proofs.Parts.{Coded, Term, Operand, Row, Terms, Inside, Perhaps, Part, leadsOf, nodeToks, codedToks, termToks, operandToks, mayToks, bareToks, rowToks, termsToks, insideToks, innerToks, perhapsToks, limitToks, groupToks, tailToks, whensToks, argsToks, partToks, constraintToks, joinToks, leafToks, opens, aliasToks, schemaToks, titledToks, indexToks, usingToks, selectedToks, nullsToks, wayToks};
-ghost use Rattle.reader.specs.Answers.{number, place};
-ghost use Rattle.writer.specs.Pages.{nodesOf, Ruled, Field, First, Bared, Taken, Wrote, Writ, Trails, Closes, Bounds};
-
+ghost use Rattle.reader.specs.Answers.{number, place, Plain};
+ghost use Rattle.writer.specs.Pages.{nodesOf, Ruled, Field, First, Bared, Taken, Wrote, Writ, Trails, Closes, Bounds, Walks};
 use kinds::AND;
 use kinds::AS;
 use kinds::BETWEEN;
@@ -880,7 +880,16 @@ fn index(out: &mut [u32], io: &[&[u32]; 3], i: u32, to: u32) -> u32
 // ---- the whole
 
 // The three walks of a table that holds so many records.
-fn walks<'a>(nodes: &'a [u32], table: &'a [u32], records: u32, out_kinds: &mut [u32], out_texts: &mut [u32]) -> Answer {
+fn walks<'a>(
+    nodes: &'a [u32],
+    table: &'a [u32],
+    records: u32,
+    out_kinds: &mut [u32],
+    out_texts: &mut [u32],
+) -> Answer
+    requires { ⌜ (now table ≡ strengthTable) × Whole aQuery (now nodes) records × (records ≤ 32776) × (length (now «out_kinds») ≡ length (now «out_texts»)) ⌝ }
+    ensures { λ r. ⌜ Walks (now (nodes .entry)) records (now («out_kinds» .entry)) (now («out_texts» .entry)) (number r) (place r) (now («out_kinds» .exit)) (now («out_texts» .exit)) × Plain r ⌝ }
+{
     let io = [nodes, table, &table[..0]];
     let count = HIGH - query(&mut out_kinds[..0], &io, records, HIGH);
     if count as usize > out_kinds.len() {
@@ -900,7 +909,9 @@ pub fn write<'a>(
     nodes: &mut [u32],
     out_kinds: &mut [u32],
     out_texts: &mut [u32],
-) -> Answer {
+) -> Answer
+    ensures { λ r. ⌜ Writes (now (kinds .entry)) (now (texts .entry)) (now (nodes .entry)) (now («out_kinds» .entry)) (now («out_texts» .entry)) (number r) (place r) (now (nodes .exit)) (now («out_kinds» .exit)) (now («out_texts» .exit)) × Plain r ⌝ }
+{
     if out_kinds.len() != out_texts.len() {
         return Answer::Refused(1, 0);
     }

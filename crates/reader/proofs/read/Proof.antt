@@ -17,11 +17,11 @@ use Rattle.reader.proofs.unfit.Reads as unfit-reads
 
 -- src/lib.rt:1649:9
 returns : tie.Need-returns
-returns c = (refusal-1 (λ l. c .if1 .taken (l .equal)) refl refl refl, omega arith)
+returns c = (refusal-1 (λ l. c .if1 .taken (l .equal)) refl refl refl, omega arith, omega arith)
 
 -- src/lib.rt:1652:9
 returns-2 : tie.Need-returns-2
-returns-2 c = (refusal-1 (λ l. omega (arith, l .short, c .if2 .taken)) refl refl refl, omega arith)
+returns-2 c = (refusal-1 (λ l. omega (arith, l .short, c .if2 .taken)) refl refl refl, omega arith, omega arith)
 
 -- src/lib.rt:1654:9
 all-fit-requires : tie.Need-all-fit-requires
@@ -33,7 +33,7 @@ unfit-requires c κs = search needs
 
 -- src/lib.rt:1655:9
 returns-3 : tie.Need-returns-3
-returns-3 c = (refusal-2 (record { equal = c .before .before .before .before .if1 .left; short = c .before .before .before .if2 .left }) (c .unfit .ensures .1 (λ u. 0≢1 (sym (not-true _ (c .before .if3 .taken)) ∙ c .before .before .all-fit .ensures .2 u))) refl refl, omega (arith, c .unfit .ensures .0))
+returns-3 c = (refusal-2 (record { equal = c .before .before .before .before .if1 .left; short = c .before .before .before .if2 .left }) (c .unfit .ensures .1 (λ u. 0≢1 (sym (not-true _ (c .before .if3 .taken)) ∙ c .before .before .all-fit .ensures .2 u))) refl refl, omega (arith, c .unfit .ensures .0), omega arith)
 
 -- src/lib.rt:1657:17
 strengths-requires : tie.Need-strengths-requires

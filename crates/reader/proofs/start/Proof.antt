@@ -7,7 +7,7 @@ use lib.ListN.{length}
 use Rattle.reader.proofs.start.Statement.{statement}
 use Rattle.reader.proofs.Laying.{left, paired}
 use Rattle.reader.proofs.Strengths.{table-rules}
-use Rattle.reader.proofs.Answering.{refused-so, without-room, accepted-so, few-refused, few-got}
+use Rattle.reader.proofs.Answering.{refused-so, refused-some, without-room, accepted-so, few-refused, few-got}
 use borrow.Author.Needs.{needs}
 use denote.Ref.{now}
 use native.Mathlib.Omega.{arith}
@@ -64,7 +64,7 @@ same-length c = search needs
 
 -- src/lib.rt:1636:17
 returns : tie.Need-returns
-returns c = (without-room (c .before .before .before .before .before .before .before .before .before .before .before .before .before .before .pre .0) (c .before .before .before .before .before .before .before .before .before .before .before .before .before .before .pre .2) (c .before .before .before .before .before .before .before .command .ensures .1) (c .before .before .before .first2 .given .1) (omega arith) (let k = ap length (ap (λ z. z ++ now (c .before .before .before .before .before .before .before .before .before .before .before .before .before .before .args .nodes)) (none-left (c .before .before .before .before .before .before .before .command .last .1 .0) (c .before .before .before .before .before .before .before .command .kept .1 .0))) in omega (arith, k, c .if1 .taken)) (ap (λ z. z ++ now (c .before .before .before .before .before .before .before .before .before .before .before .before .before .before .args .nodes)) (none-left (c .before .before .before .before .before .before .before .command .last .1 .0) (c .before .before .before .before .before .before .before .command .kept .1 .0))), few-got (c .before .before .before .before .before .before .before .command .ensures .0) (c .before .before .before .first2 .given .1) (omega arith))
+returns c = (without-room (c .before .before .before .before .before .before .before .before .before .before .before .before .before .before .pre .0) (c .before .before .before .before .before .before .before .before .before .before .before .before .before .before .pre .2) (c .before .before .before .before .before .before .before .command .ensures .1) (c .before .before .before .first2 .given .1) (omega arith) (let k = ap length (ap (λ z. z ++ now (c .before .before .before .before .before .before .before .before .before .before .before .before .before .before .args .nodes)) (none-left (c .before .before .before .before .before .before .before .command .last .1 .0) (c .before .before .before .before .before .before .before .command .kept .1 .0))) in omega (arith, k, c .if1 .taken)) (ap (λ z. z ++ now (c .before .before .before .before .before .before .before .before .before .before .before .before .before .before .args .nodes)) (none-left (c .before .before .before .before .before .before .before .command .last .1 .0) (c .before .before .before .before .before .before .before .command .kept .1 .0))), few-got (c .before .before .before .before .before .before .before .command .ensures .0) (c .before .before .before .first2 .given .1) (omega arith), omega arith)
 
 -- src/lib.rt:1638:13
 command-requires-2 : tie.Need-command-requires-2
@@ -77,7 +77,7 @@ same-length-2 c = search needs
 
 -- src/lib.rt:1625:1
 returns-2 : tie.Need-returns-2
-returns-2 c = (refused-so (c .before .before .before .before .before .before .before .before .before .before .before .before .pre .0) (c .before .before .before .before .before .before .before .before .before .before .before .before .pre .2) (c .before .before .before .before .before .command .ensures .1) (c .before .first .given .1) (ap (λ z. z ++ now (c .before .before .before .before .before .before .before .before .before .before .before .before .args .nodes)) (none-left (c .before .before .before .before .before .command .last .1 .0) (c .before .before .before .before .before .command .kept .1 .0))), few-refused (c .before .before .before .before .before .command .ensures .0) (c .before .first .given .1))
+returns-2 c = (refused-so (c .before .before .before .before .before .before .before .before .before .before .before .before .pre .0) (c .before .before .before .before .before .before .before .before .before .before .before .before .pre .2) (c .before .before .before .before .before .command .ensures .1) (c .before .first .given .1) (ap (λ z. z ++ now (c .before .before .before .before .before .before .before .before .before .before .before .before .args .nodes)) (none-left (c .before .before .before .before .before .command .last .1 .0) (c .before .before .before .before .before .command .kept .1 .0))), few-refused (c .before .before .before .before .before .command .ensures .0) (c .before .first .given .1), refused-some (c .before .before .before .before .before .before .before .before .before .before .before .before .pre .0) (c .before .before .before .before .before .before .before .before .before .before .before .before .pre .2) (c .before .before .before .before .before .command .ensures .1) (c .before .first .given .1))
 
 -- src/lib.rt:1625:1
 same-length-3 : tie.Need-same-length-3
@@ -85,7 +85,7 @@ same-length-3 c = search needs
 
 -- src/lib.rt:1625:1
 returns-3 : tie.Need-returns-3
-returns-3 c = (accepted-so (c .before .before .before .before .before .before .before .before .before .before .before .before .before .before .before .before .before .before .before .pre .0) (c .before .before .before .before .before .before .before .before .before .before .before .before .before .before .before .before .before .before .before .pre .2) (c .before .before .before .before .before .before .before .before .before .before .before .before .command .ensures .1) (c .before .before .before .before .before .before .before .before .first2 .given .1) (c .before .before .command2 .ensures .1) (ap (λ z. z ++ now (c .before .before .before .before .before .before .before .before .before .before .before .before .before .before .before .before .before .before .before .args .nodes)) (none-left (c .before .before .before .before .before .before .before .before .before .before .before .before .command .last .1 .0) (c .before .before .before .before .before .before .before .before .before .before .before .before .command .kept .1 .0))) (omega arith) (let k = ap length (ap (λ z. z ++ now (c .before .before .before .before .before .before .before .before .before .before .before .before .before .before .before .before .before .before .before .args .nodes)) (none-left (c .before .before .before .before .before .before .before .before .before .before .before .before .command .last .1 .0) (c .before .before .before .before .before .before .before .before .before .before .before .before .command .kept .1 .0))) in omega (arith, k, c .before .before .before .before .before .if1 .left)), few-got (c .before .before .before .before .before .before .before .before .before .before .before .before .command .ensures .0) (c .before .before .before .before .before .before .before .before .first2 .given .1) (omega arith))
+returns-3 c = (accepted-so (c .before .before .before .before .before .before .before .before .before .before .before .before .before .before .before .before .before .before .before .pre .0) (c .before .before .before .before .before .before .before .before .before .before .before .before .before .before .before .before .before .before .before .pre .2) (c .before .before .before .before .before .before .before .before .before .before .before .before .command .ensures .1) (c .before .before .before .before .before .before .before .before .first2 .given .1) (c .before .before .command2 .ensures .1) (ap (λ z. z ++ now (c .before .before .before .before .before .before .before .before .before .before .before .before .before .before .before .before .before .before .before .args .nodes)) (none-left (c .before .before .before .before .before .before .before .before .before .before .before .before .command .last .1 .0) (c .before .before .before .before .before .before .before .before .before .before .before .before .command .kept .1 .0))) (omega arith) (let k = ap length (ap (λ z. z ++ now (c .before .before .before .before .before .before .before .before .before .before .before .before .before .before .before .before .before .before .before .args .nodes)) (none-left (c .before .before .before .before .before .before .before .before .before .before .before .before .command .last .1 .0) (c .before .before .before .before .before .before .before .before .before .before .before .before .command .kept .1 .0))) in omega (arith, k, c .before .before .before .before .before .if1 .left)), few-got (c .before .before .before .before .before .before .before .before .before .before .before .before .command .ensures .0) (c .before .before .before .before .before .before .before .before .first2 .given .1) (omega arith), tt)
 
 pub start-spec : {M : Type 1} → statement M
 start-spec =

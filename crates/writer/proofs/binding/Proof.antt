@@ -1,7 +1,7 @@
 -- Made by `proofkit expand` from Proof.tmpl beside it: edit that file.
 use Rattle.writer.proofs.Leaves.{list-is, by-table}
 use Rattle.writer.proofs.Said.{binding-words, binding-kind}
-use Rattle.writer.proofs.Small.{strength-small}
+use Rattle.kinds.proofs.Small.{strength-small}
 use borrow.Author.Needs.{needs}
 use mathlib.Core.Path.{refl, _∙_}
 use native.Mathlib.Omega.{arith}

@@ -1,7 +1,7 @@
 -- Made by `proofkit expand` from Proof.tmpl beside it: edit that file.
 use Rattle.writer.proofs.Said.{str-above}
 use Rattle.scribe.proofs.Spelt.{str-prefix, str-binary, str-collate, str-test, str-operand, str-none}
-use Rattle.writer.proofs.Small.{prefix-small}
+use Rattle.kinds.proofs.Small.{prefix-small}
 use borrow.Author.Needs.{needs}
 use mathlib.Core.Path.{sym, _∙_}
 use native.Mathlib.Omega.{arith}

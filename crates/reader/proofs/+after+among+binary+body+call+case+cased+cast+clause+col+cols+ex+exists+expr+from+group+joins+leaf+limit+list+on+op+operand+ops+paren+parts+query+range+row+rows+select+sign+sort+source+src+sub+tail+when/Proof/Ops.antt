@@ -2,7 +2,8 @@
 -- The needs of `ops`, one of the cycle `+after+among+binary+body+call+case+cased+cast+clause+col+cols+ex+exists+expr+from+group+joins+leaf+limit+list+on+op+operand+ops+paren+parts+query+range+row+rows+select+sign+sort+source+src+sub+tail+when`.
 use Prim.Native.Nat.{_*_, _+_, _-_, _<_, _≤_, ℕ}
 use Rattle.reader.proofs.Steps.{ended, got-in, passed-on}
-use Rattle.reader.proofs.Tables.{strength-is, strength-small}
+use Rattle.reader.proofs.Tables.{strength-is}
+use Rattle.kinds.proofs.Small.{strength-small}
 use Rattle.reader.specs.Bounds.{tokens, kindsOf, textsOf}
 use borrow.Author.Needs.{needs}
 use lib.ListN.{length}

@@ -2,7 +2,7 @@
 -- The needs of `sign`, one of the cycle `+after+among+binary+body+call+case+cased+cast+clause+col+cols+ex+exists+expr+from+group+joins+leaf+limit+list+on+op+operand+ops+paren+parts+query+range+row+rows+select+sign+sort+source+src+sub+tail+when`.
 use Prim.Native.Nat.{_≤_, ℕ}
 use Rattle.reader.proofs.Steps.{ended, got-in, passed-on, refused}
-use Rattle.reader.proofs.Tables.{prefix-small}
+use Rattle.kinds.proofs.Small.{prefix-small}
 use borrow.Author.Needs.{needs}
 use native.Mathlib.Omega.{arith}
 use Rattle.reader.proofs.+after+among+binary+body+call+case+cased+cast+clause+col+cols+ex+exists+expr+from+group+joins+leaf+limit+list+on+op+operand+ops+paren+parts+query+range+row+rows+select+sign+sort+source+src+sub+tail+when.Proof.Common.{sign-claims, sign-at}

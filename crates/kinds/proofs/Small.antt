@@ -1,21 +1,21 @@
--- Strengths are small. Assumes nothing.
+-- The numbers that the tables of kinds give are small. Assumes nothing.
 use mathlib.Core.Bool.{Bool, true, false, cond, _&&_}
 use mathlib.Core.List.{List, [], _∷_}
 use Prim.Native.Nat.{ℕ, _≤_}
 use native.Mathlib.Omega.{arith}
 use lib.Dec.{T, leb, leb→le}
 use Rattle.kinds.specs.Lists.{Line, _for_, among, numberOf}
 use Rattle.kinds.specs.Strength.{strengths, strengthOf, prefixes, prefixOf}
 
-left : (a b : Bool) → T (a && b) → T a
+pub left : (a b : Bool) → T (a && b) → T a
 left true b t = tt
 left false b t = t
 
-right : (a b : Bool) → T (a && b) → T b
+pub right : (a b : Bool) → T (a && b) → T b
 right true b t = t
 right false b t = absurd t
 
-chosen : (c : Bool) (b n m : ℕ) → n ≤ b → m ≤ b → cond c n m ≤ b
+pub chosen : (c : Bool) (b n m : ℕ) → n ≤ b → m ≤ b → cond c n m ≤ b
 chosen true b n m p q = p
 chosen false b n m p q = q
 
@@ -36,4 +36,3 @@ strength-small k = number-small 10 k strengths tt
 pub prefix-small : (k : ℕ) → prefixOf k ≤ 11
 unfolding prefixOf
 prefix-small k = number-small 11 k prefixes tt
-
