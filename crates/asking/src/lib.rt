@@ -149,13 +149,23 @@ fn in_words<'a>(
     tree::draw(block, begun, nodes, r.place)
 }
 
-fn in_numbers(
+fn write<'a>(
     block: &mut [u8; BLOCK],
     waiting: usize,
+    row: u64,
     line: Line,
     r: Reading,
+    kinds: &'a [u32],
+    texts: &'a [u32],
     nodes: &[u32],
+    aloud: bool,
 ) -> usize {
+    if !r.kept {
+        return spoiled(block, waiting, r.changed);
+    }
+    if aloud {
+        return in_words(block, waiting, row, line, r, kinds, texts, nodes);
+    }
     if lines::is_room(line) {
         return in_short(block, waiting, r);
     }
@@ -174,13 +184,7 @@ fn answer<'a>(
     aloud: bool,
 ) -> usize {
     let r = reading::of_line(line, kinds, texts, nodes);
-    let at = if !r.kept {
-        spoiled(block, waiting, r.changed)
-    } else if aloud {
-        in_words(block, waiting, row, line, r, kinds, texts, nodes)
-    } else {
-        in_numbers(block, waiting, line, r, nodes)
-    };
+    let at = write(block, waiting, row, line, r, kinds, texts, nodes, aloud);
     reading::clear(r, nodes);
     at
 }
@@ -222,15 +226,17 @@ fn ended<'a>(
     )
 }
 
-// A byte of a line.
+// A byte of a line; after one that did not fit no other counts.
 fn taken(old: Now, b: u8, kinds: &mut [u32], texts: &mut [u32]) -> Now {
     let line = old.line;
-    let wrong = lines::is_wrong(line);
+    if lines::is_wrong(line) {
+        return old;
+    }
     Now {
         line: lines::taken(line, b, kinds, texts),
         row: old.row,
-        last: if wrong { old.last } else { b },
-        before: if wrong { old.before } else { old.last },
+        last: b,
+        before: old.last,
         waiting: old.waiting,
         more: true,
     }

@@ -82,10 +82,7 @@ fn token<'a>(
     let begun = bytes(block, said, b": ");
     match n {
         2 => unfit(block, begun, at(kinds, place), at(texts, place)),
-        3 => {
-            let k = crate::names::kind(block, begun, at(kinds, place));
-            bytes(block, k, b" can't follow")
-        }
+        3 => misplaced(block, begun, at(kinds, place), place),
         5 => bytes(
             block,
             begun,
@@ -93,9 +90,17 @@ fn token<'a>(
         ),
         6 => bytes(block, begun, b"a 17th query opens, 16 are the most"),
         7 => join(block, begun, place, kinds, texts),
-        8 => bytes(block, begun, b"row length differs from the first"),
+        8 => bytes(block, begun, b"row length differs from the first row's"),
         _ => bytes(block, begun, b"refused"),
     }
+}
+
+fn misplaced(block: &mut [u8; BLOCK], waiting: usize, kind: u32, place: usize) -> usize {
+    let named = crate::names::kind(block, waiting, kind);
+    if place == 0 {
+        return bytes(block, named, b" can't begin a command");
+    }
+    bytes(block, named, b" can't follow")
 }
 
 fn unfit(block: &mut [u8; BLOCK], waiting: usize, kind: u32, text: u32) -> usize {

@@ -1,9 +1,12 @@
 // A reading drawn as a tree: a record a line, below the one whose child it is; absent ones are left out.
 use report::BLOCK;
 use report::byte;
+use report::bytes;
 
 // As many records as the longest table holds.
 const RECORDS: usize = 16384;
+
+const DEEP: u32 = 64;
 
 // The numbers of a record.
 const CODE: u8 = 0;
@@ -90,7 +93,7 @@ fn seat_children(
     }
 }
 
-fn indent(block: &mut [u8; BLOCK], waiting: usize, depth: u32) -> usize {
+fn blanks(block: &mut [u8; BLOCK], waiting: usize, depth: u32) -> usize {
     let mut at = waiting;
     let mut left = depth;
     while left > 0 {
@@ -99,6 +102,18 @@ fn indent(block: &mut [u8; BLOCK], waiting: usize, depth: u32) -> usize {
         left -= 1;
     }
     at
+}
+
+// Left operands may stand in each other a thousand deep. From DEEP on the depth is told by its number, lest a
+// line grow with it.
+fn indent(block: &mut [u8; BLOCK], waiting: usize, depth: u32) -> usize {
+    if depth < DEEP {
+        return blanks(block, waiting, depth);
+    }
+    let at = blanks(block, waiting, DEEP);
+    let opened = byte(block, at, b'(');
+    let told = report::number(block, opened, report::wide(depth));
+    bytes(block, told, b") ")
 }
 
 // A line of the tree.

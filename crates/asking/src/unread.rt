@@ -13,18 +13,22 @@ pub struct Misfit {
 // The byte as it is written, or by its number where it can't be.
 fn quoted(block: &mut [u8; BLOCK], waiting: usize, b: u8) -> usize {
     match b {
-        b'!'..=b'~' => {
-            let opened = byte(block, waiting, b'\'');
-            let shown = byte(block, opened, b);
-            byte(block, shown, b'\'')
-        }
+        b'!'..=b'~' => shown(block, waiting, b),
         b' ' => bytes(block, waiting, b"a blank"),
         b'\n' => bytes(block, waiting, b"the line's end"),
-        _ => {
-            let named = bytes(block, waiting, b"byte value ");
-            number(block, named, b as u64)
-        }
+        _ => numbered(block, waiting, b),
     }
+}
+
+fn shown(block: &mut [u8; BLOCK], waiting: usize, b: u8) -> usize {
+    let opened = byte(block, waiting, b'\'');
+    let inside = byte(block, opened, b);
+    byte(block, inside, b'\'')
+}
+
+fn numbered(block: &mut [u8; BLOCK], waiting: usize, b: u8) -> usize {
+    let named = bytes(block, waiting, b"byte value ");
+    number(block, named, b as u64)
 }
 
 fn is_digit(b: u8) -> bool {

@@ -1,8 +1,8 @@
--- `asking::tree::indent` is safe and ends: the measure is how many levels are left.
+-- `asking::tree::blanks` is safe and ends: the measure is how many levels are left.
 -- Assumes nothing.
 use borrow.Author.Needs.{needs}
-use Rattle.asking.proofs.tree.indent.Statement.{statement}
-use Rattle.asking.proofs.tree.indent.Tie as tie
+use Rattle.asking.proofs.tree.blanks.Statement.{statement}
+use Rattle.asking.proofs.tree.blanks.Tie as tie
 
 abbrev Inv-loop : tie.InvT-loop
 Inv-loop block₀ waiting depth at₀ left₀ block at left = Unit {0}
@@ -31,8 +31,8 @@ loop-again c = search needs
 returns : tie.Need-returns Inv-loop μ-loop
 returns c = search needs
 
-pub indent-spec : {M : Type 1} → statement M
-indent-spec =
+pub blanks-spec : {M : Type 1} → statement M
+blanks-spec =
     tie.close
     (tie.spec
     Inv-loop
