@@ -1,10 +1,10 @@
--- `ask::all` is safe and ends: the measure is how many turns are left; the lists and the table keep their lengths.
+-- `asking::all` is safe and ends: the measure is how many turns are left; the lists and the table keep their lengths.
 -- Assumes nothing.
 use mathlib.Core.Path.{_≡_}
 use lib.ListN.{length}
 use borrow.Author.Needs.{needs}
-use Rattle.ask.proofs.all.Statement.{statement}
-use Rattle.ask.proofs.all.Tie as tie
+use Rattle.asking.proofs.all.Statement.{statement}
+use Rattle.asking.proofs.all.Tie as tie
 
 abbrev Inv-loop : tie.InvT-loop
 Inv-loop kinds₀ texts₀ nodes₀ block₀ aloud now₀ turns₀ kinds texts nodes block now turns =

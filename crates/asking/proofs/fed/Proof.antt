@@ -1,11 +1,11 @@
--- `ask::fed` is safe and ends: the measure is how many bytes are left; the lists and the table keep their lengths.
+-- `asking::fed` is safe and ends: the measure is how many bytes are left; the lists and the table keep their lengths.
 -- Assumes nothing.
 use mathlib.Core.Path.{_≡_}
 use Prim.Native.Nat.{_≤_, _-_}
 use lib.ListN.{length}
 use borrow.Author.Needs.{needs}
-use Rattle.ask.proofs.fed.Statement.{statement}
-use Rattle.ask.proofs.fed.Tie as tie
+use Rattle.asking.proofs.fed.Statement.{statement}
+use Rattle.asking.proofs.fed.Tie as tie
 
 abbrev Inv-loop : tie.InvT-loop
 Inv-loop input kinds₀ texts₀ nodes₀ block₀ aloud now₀ i₀ kinds texts nodes block now i =

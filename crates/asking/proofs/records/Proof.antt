@@ -1,9 +1,9 @@
--- `ask::records` is safe and ends: the measure is how many numbers are left.
+-- `asking::records` is safe and ends: the measure is how many numbers are left.
 -- Assumes nothing.
 use Prim.Native.Nat.{_≤_, _-_}
 use borrow.Author.Needs.{needs}
-use Rattle.ask.proofs.records.Statement.{statement}
-use Rattle.ask.proofs.records.Tie as tie
+use Rattle.asking.proofs.records.Statement.{statement}
+use Rattle.asking.proofs.records.Tie as tie
 
 abbrev Inv-loop : tie.InvT-loop
 Inv-loop block₀ waiting nodes count end at₀ i₀ block at i = i ≤ end

@@ -1,0 +1,4 @@
+// `ask`, run with -h.
+fn main() {
+    asking::run();
+}

@@ -1,0 +1,4 @@
+// `ask`, run with -v.
+fn main() {
+    asking::run();
+}
