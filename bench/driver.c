@@ -1,4 +1,4 @@
-// Drives the compiled reader: vectors FILE | stack FILE | bench FILE ROUNDS
+// Drives the compiled reader and writer: vectors FILE | stack FILE [w] | bench FILE ROUNDS [w]; with w it is `write` that is called
 #include <stdio.h>
 #include <stdlib.h>
 #include <string.h>
@@ -7,6 +7,8 @@ typedef uint32_t u32; typedef uint64_t u64;
 typedef struct { u32 *p; u64 n; } Slice;
 typedef struct { uint8_t tag; u32 number; u64 place; } Answer;
 void reader_read(Answer *out, Slice *kinds, Slice *texts, Slice *nodes);
+void writer_write(Answer *out, Slice *kinds, Slice *texts, Slice *nodes, Slice *out_kinds, Slice *out_texts);
+static u32 wk[16384], wt[16384]; static int writes;
 static u32 kinds[8192], texts[8192]; static u32 nodes[200000], before[200000];
 static Answer run(u64 nk, u64 nt, u64 nn) {
     Slice k = {kinds, nk}, t = {texts, nt}, n = {nodes, nn}; Answer a; memset(&a, 0, sizeof a);
@@ -24,17 +26,19 @@ static int parse(FILE *f, u64 *n) { // one line
 #define STACK (1 << 18)
 static char area[STACK] __attribute__((aligned(64)));
 static long painted(u64 nt, u64 nn, Answer *a) {
-    Slice k = {kinds, nt}, t = {texts, nt}, n = {nodes, nn}; Answer out; memset(&out, 0, sizeof out);
+    Slice k = {kinds, nt}, t = {texts, nt}, n = {nodes, nn}, x = {wk, 16384}, y = {wt, 16384}; Answer out; memset(&out, 0, sizeof out);
     memset(area, 0xA5, STACK);
-    register Answer *rdi __asm__("rdi") = &out; register Slice *rsi __asm__("rsi") = &k, *rdx __asm__("rdx") = &t, *rcx __asm__("rcx") = &n;
+    register Answer *rdi __asm__("rdi") = &out; register Slice *rsi __asm__("rsi") = &k, *rdx __asm__("rdx") = &t, *rcx __asm__("rcx") = &n, *r8 __asm__("r8") = &x, *r9 __asm__("r9") = &y;
+    void *call = writes ? (void *)&writer_write : (void *)&reader_read;
     char *top = area + STACK;
     __asm__ volatile("movq %%rsp, %%rbx; movq %[top], %%rsp; callq *%[f]; movq %%rbx, %%rsp"
-        : "+r"(rdi), "+r"(rsi), "+r"(rdx), "+r"(rcx) : [top] "r"(top), [f] "r"(&reader_read)
-        : "rbx", "rax", "r8", "r9", "r10", "r11", "memory", "cc", "xmm0", "xmm1", "xmm2", "xmm3", "xmm4", "xmm5", "xmm6", "xmm7");
+        : "+r"(rdi), "+r"(rsi), "+r"(rdx), "+r"(rcx), "+r"(r8), "+r"(r9) : [top] "r"(top), [f] "r"(call)
+        : "rbx", "rax", "r10", "r11", "memory", "cc", "xmm0", "xmm1", "xmm2", "xmm3", "xmm4", "xmm5", "xmm6", "xmm7");
     *a = out; long i = 0; while (i < STACK && (uint8_t)area[i] == 0xA5) i++; return STACK - i;
 }
 int main(int argc, char **argv) {
     FILE *f = fopen(argv[2], "rb"); if (!f) return 2;
+    writes = argv[argc - 1][0] == 'w' && !argv[argc - 1][1];
     if (!strcmp(argv[1], "vectors")) {
         u32 x; long bad = 0, all = 0;
         while (fread(&x, 4, 1, f) == 1) {
@@ -59,7 +63,7 @@ int main(int argc, char **argv) {
         printf("%ld runs, %ld wrong\n", all, bad); return bad != 0;
     }
     if (!strcmp(argv[1], "stack")) {
-        u64 n; long worst = 0; char name[256] = ""; int quiet = argc > 3;
+        u64 n; long worst = 0; char name[256] = ""; int quiet = argc > 3 && !writes;
         while (parse(f, &n)) { Answer a; long b = painted(n, 80000, &a); if (!quiet) printf("%6ld bytes  %5lu tokens, %lu at %lu  %s\n", b, n, number(a), a.place, label); if (b > worst) { worst = b; strcpy(name, label); } }
         printf("worst %ld: %s\n", worst, name); return 0;
     }
@@ -67,7 +71,9 @@ int main(int argc, char **argv) {
         u64 n, tokens = 0; static u32 *ks[4096], *ts[4096]; static u64 ns[4096]; int c = 0;
         while (parse(f, &n)) { if (!n) continue; ks[c] = malloc(n * 4); ts[c] = malloc(n * 4); memcpy(ks[c], kinds, n * 4); memcpy(ts[c], texts, n * 4); ns[c++] = n; tokens += n; }
         int rounds = atoi(argv[3]); u64 ok = 0;
-        for (int r = 0; r < rounds; r++) for (int i = 0; i < c; i++) { Slice k = {ks[i], ns[i]}, t = {ts[i], ns[i]}, o = {nodes, 80000}; Answer a; reader_read(&a, &k, &t, &o); ok += a.tag == 0; }
+        for (int r = 0; r < rounds; r++) for (int i = 0; i < c; i++) { Slice k = {ks[i], ns[i]}, t = {ts[i], ns[i]}, o = {nodes, 80000}, x = {wk, 16384}, y = {wt, 16384}; Answer a;
+            if (writes) writer_write(&a, &k, &t, &o, &x, &y); else reader_read(&a, &k, &t, &o);
+            ok += a.tag == 0; }
         printf("bench: %d commands, %lu tokens, %lu accepted\n", c, tokens, ok); return 0;
     }
     return 2;

@@ -6,7 +6,7 @@ fn = None; f = {}
 for l in s.split('\n'):
     m = re.match(r'^"?([\w:]+)"?:\s', l + ' ')
     if m:
-        fn = m.group(1) if '::' in m.group(1) or m.group(1) == 'reader_read' else None
+        fn = m.group(1) if '::' in m.group(1) or m.group(1) in ("reader_read", "writer_write") else None
         if fn: f[fn] = dict(push=0, sub=0, calls={}, n=0, outs=0, first=True)
     if fn is None: continue
     t = l.strip()

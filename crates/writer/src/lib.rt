@@ -22,7 +22,7 @@ ghost use Rattle.scribe.proofs.Kids.{Maybe};
 ghost use Rattle.scribe.proofs.Spelt.{literalKind, nameKind};
 ghost use Rattle.scribe.proofs.Clauses.{codeAt};
 ghost use Rattle.scribe.proofs.Leading.{backs};
-ghost use Rattle.scribe.proofs.Parts.{Coded, Term, Operand, Row, Terms, Inside, Perhaps, Part, leadsOf, nodeToks, codedToks, termToks, operandToks, mayToks, bareToks, rowToks, termsToks, insideToks, innerToks, perhapsToks, limitToks, groupToks, tailToks, whensToks, argsToks, partToks, constraintToks, joinToks, leafToks, opens, aliasToks, schemaToks, titledToks, indexToks, usingToks, selectedToks, nullsToks, wayToks};
+ghost use Rattle.scribe.proofs.Parts.{Spells, Coded, Term, Operand, Row, Terms, Inside, Perhaps, Part, leadsOf, nodeToks, codedToks, termToks, operandToks, mayToks, bareToks, rowToks, termsToks, insideToks, innerToks, perhapsToks, limitToks, groupToks, tailToks, whensToks, argsToks, partToks, constraintToks, joinToks, leafToks, opens, aliasToks, schemaToks, titledToks, indexToks, usingToks, selectedToks, nullsToks, wayToks};
 ghost use Rattle.reader.specs.Answers.{number, place, Plain};
 ghost use Rattle.writer.specs.Pages.{nodesOf, Ruled, Field, First, Bared, Taken, Wrote, Writ, Trails, Closes, Bounds, Walks};
 use kinds::AND;
@@ -879,7 +879,23 @@ fn index(out: &mut [u32], io: &[&[u32]; 3], i: u32, to: u32) -> u32
 
 // ---- the whole
 
-// The three walks of a table that holds so many records.
+// One walk of a table that holds so many records.
+fn walk<'a>(
+    nodes: &'a [u32],
+    table: &'a [u32],
+    which: &'a [u32],
+    records: u32,
+    out: &mut [u32],
+    to: u32,
+) -> u32
+    requires { ⌜ (now table ≡ strengthTable) × Coded node-query (now nodes) records ⌝ }
+    ensures { λ r. ⌜ Spells (codedToks node-query) (now (nodes .entry)) (length (now (which .entry))) (now (out .entry)) (now (out .exit)) r to records ⌝ }
+{
+    let io = [nodes, table, which];
+    query(out, &io, records, to)
+}
+
+// The three walks.
 fn walks<'a>(
     nodes: &'a [u32],
     table: &'a [u32],
@@ -890,14 +906,20 @@ fn walks<'a>(
     requires { ⌜ (now table ≡ strengthTable) × Whole aQuery (now nodes) records × (records ≤ 32776) × (length (now «out_kinds») ≡ length (now «out_texts»)) ⌝ }
     ensures { λ r. ⌜ Walks (now (nodes .entry)) records (now («out_kinds» .entry)) (now («out_texts» .entry)) (number r) (place r) (now («out_kinds» .exit)) (now («out_texts» .exit)) × Plain r ⌝ }
 {
-    let io = [nodes, table, &table[..0]];
-    let count = HIGH - query(&mut out_kinds[..0], &io, records, HIGH);
+    let count = HIGH
+        - walk(
+            nodes,
+            table,
+            &table[..0],
+            records,
+            &mut out_kinds[..0],
+            HIGH,
+        );
     if count as usize > out_kinds.len() {
         return Answer::Refused(10, count as usize);
     }
-    query(out_kinds, &io, records, count);
-    let jo = [nodes, table, table];
-    query(out_texts, &jo, records, count);
+    walk(nodes, table, &table[..0], records, out_kinds, count);
+    walk(nodes, table, table, records, out_texts, count);
     Answer::Accepted(count as usize)
 }
 
