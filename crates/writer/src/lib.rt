@@ -915,12 +915,13 @@ fn walks<'a>(
             &mut out_kinds[..0],
             HIGH,
         );
-    if count as usize > out_kinds.len() {
-        return Answer::Refused(10, count as usize);
+    let need = count as usize;
+    if need > out_kinds.len() {
+        return Answer::Refused(10, need);
     }
     walk(nodes, table, &table[..0], records, out_kinds, count);
     walk(nodes, table, table, records, out_texts, count);
-    Answer::Accepted(count as usize)
+    Answer::Accepted(need)
 }
 
 // Writes the command's canonical writing, or refuses it; what is refused leaves the lists as they were, but 10
