@@ -1,19 +1,18 @@
 // The writer: a command's canonical writing. It is read into records; one walker then goes through them from
 // the last token to the first, three times: lent no list it counts, then it writes the kinds, then the texts.
 // A node is known by where it ends: the record of the node that ends at i is number i - 1. Each function that
-// writes takes where its tokens end, and answers where they begin.
+// writes takes where its tokens end, and answers where they begin. `io` is what all are lent: the records, the
+// table of strengths, and a list that is empty where the kinds are written.
 mod node;
 
 ghost use mathlib.Core.Path.{_≡_};
 ghost use mathlib.Core.List.{[], _∷_, _++_};
 ghost use Prim.Native.Nat.{_+_, _-_, _%_, _/_, _<_, _≤_};
-ghost use lib.Dec.{eqb};
 ghost use lib.ListN.{length};
-ghost use Rattle.grammar.specs.NodeNames.{node-absent, node-query, node-select, node-values, node-table, node-column, node-sort, node-names, node-call, node-case, node-cast, node-prefix, node-between};
+ghost use Rattle.grammar.specs.NodeNames.{node-query, node-select, node-values, node-table, node-call, node-case, node-cast, node-prefix, node-between};
 ghost use Rattle.grammar.specs.Reading.{choose};
-ghost use Rattle.grammar.specs.Writing.{tok, toktext, nodeStr, binaryStr, binaryToks, notIf, joinOf, joinWords, within, parted};
+ghost use Rattle.grammar.specs.Writing.{tok, toktext, nodeStr, binaryStr, binaryToks, notIf, joinOf, joinWords};
 ghost use Rattle.grammar.specs.Promise.{Writes};
-ghost use Rattle.canon.proofs.Folds.{P};
 ghost use Rattle.words.specs.Fewest.{present};
 ghost use Rattle.kinds.specs.Strength.{strengthTable};
 ghost use Rattle.shapes.specs.Shape.{aQuery, aBody, aFrom, aSource, aConstraint, anExpr, aName, Joining};
@@ -22,7 +21,7 @@ ghost use Rattle.scribe.proofs.Kids.{Maybe};
 ghost use Rattle.scribe.proofs.Spelt.{literalKind, nameKind};
 ghost use Rattle.scribe.proofs.Clauses.{codeAt};
 ghost use Rattle.scribe.proofs.Leading.{backs};
-ghost use Rattle.scribe.proofs.Parts.{Spells, Coded, Term, Operand, Row, Terms, Inside, Perhaps, Part, leadsOf, nodeToks, codedToks, termToks, operandToks, mayToks, bareToks, rowToks, termsToks, insideToks, innerToks, perhapsToks, limitToks, groupToks, tailToks, whensToks, argsToks, partToks, constraintToks, joinToks, leafToks, opens, aliasToks, schemaToks, titledToks, indexToks, usingToks, selectedToks, nullsToks, wayToks};
+ghost use Rattle.scribe.proofs.Parts.{Spells, Coded, Term, Operand, Terms, Inside, Perhaps, Part, leadsOf, nodeToks, codedToks, termToks, operandToks, mayToks, bareToks, rowToks, termsToks, insideToks, innerToks, perhapsToks, limitToks, groupToks, tailToks, whensToks, argsToks, partToks, constraintToks, joinToks, leafToks, opens, aliasToks, schemaToks, titledToks, indexToks, usingToks, selectedToks, nullsToks, wayToks};
 ghost use Rattle.reader.specs.Answers.{number, place, Plain};
 ghost use Rattle.writer.specs.Pages.{nodesOf, Ruled, Field, First, Bared, Taken, Wrote, Writ, Trails, Closes, Bounds, Walks};
 use kinds::AND;
@@ -339,7 +338,8 @@ fn leads(code: u32) -> bool
 }
 
 // An expression, a column or a sort term, at a place that asks for a strength. Children that stand first are
-// gone through by the loop: a chain of operators is as deep as it is long.
+// gone through by the loop (`ex`): a chain of operators is as deep as it is long. It is called through a function
+// that is taken into each caller, so that a caller's calls of it share one place on the stack.
 fn expr(out: &mut [u32], io: &[&[u32]; 3], i: u32, to: u32, ask: u32) -> u32
     requires { ⌜ Ruled (now io) × Term (nodesOf (now io)) i ⌝ }
     ensures { λ r. ⌜ Writ (termToks ask) (now (io .entry)) (now (out .entry)) (now (out .exit)) r to i ⌝ }
@@ -774,7 +774,7 @@ fn taken(io: &[&[u32]; 3], i: u32) -> u32
     i
 }
 
-// COMMA, or the fewest join words and JOIN.
+// What a join begins with; the first source has nothing before it.
 fn joined(out: &mut [u32], io: &[&[u32]; 3], i: u32, to: u32) -> u32
     ensures { λ r. ⌜ Writ joinToks (now (io .entry)) (now (out .entry)) (now (out .exit)) r to i ⌝ }
 {
