@@ -15,7 +15,6 @@ use Rattle.kinds.specs.Kinds.{COMMA, DOT, GROUP, BY}
 use Rattle.grammar.specs.Sizes.{WIDTH}
 use Rattle.grammar.specs.NodeNames.{node-absent, node-on, node-using, node-parens, node-names, node-call, node-subquery, node-exists, node-case, node-cast, node-prefix, node-binary, node-null-test, node-in-list, node-in-query, node-between, node-collate}
 use Rattle.grammar.specs.Nodes.{Nodes, end, mk, count}
-use Rattle.grammar.specs.Reading.{choose}
 use Rattle.grammar.specs.Meaning.{plainDetail}
 use Rattle.grammar.specs.Writing.{piece, nothing, formed, forms, _!_, after, each, parted, grouped, binaryToks, binaryStr, notIf, at, tok}
 use Rattle.canon.proofs.Folds.{P}
@@ -23,7 +22,7 @@ use Rattle.shapes.specs.Shape.{Class, aFrom, aConstraint, anExpr, aName, absenc
 use Rattle.scribe.proofs.Spelling.{pieceOf, P-node, plain-piece, unwrapped-piece, more-piece}
 use Rattle.scribe.proofs.Whole.{Whole, pieceAt}
 use Rattle.scribe.proofs.Kids.{known, Maybe, mayPiece, isThere, not-absent, absent-code, absent-kids, absent-piece, some-counted}
-use Rattle.scribe.proofs.Spelt.{next-of, list-is, any-is, from-is, from-shape, list-spelt, after-here, after-gone, toks-gone, constraint-is, piece-there}
+use Rattle.scribe.proofs.Spelt.{next-of, list-is, any-is, from-is, from-shape, list-spelt, after-here, after-gone, toks-gone, constraint-is}
 use Rattle.scribe.proofs.Lists.{parted-none}
 
 -- ── by the table's numbers ──
@@ -84,18 +83,7 @@ module _ {N : List ℕ} {i : ℕ} where
 
   pub constraint-here : (m : Maybe aConstraint N i) → 0 < codeAt N i → (w : Whole aConstraint N i) × (mayPiece m ≡ pieceAt w)
   constraint-here m h = may-here refl m (λ e. absurd (omega (arith, h, e)))
-
   -- ── a schema and its DOT ──
-  pub schema-gone : (m : Maybe aName N i) (ts : List Tok) → codeAt N i ≡ node-absent → mayPiece m .toks ++ (choose (eqb (mayPiece m .code) node-absent) [] (tok DOT ∷ []) ++ ts) ≡ ts
-  unfolding choose
-  schema-gone m ts e = ap (λ p. p .toks ++ (choose (eqb (p .code) node-absent) [] (tok DOT ∷ []) ++ ts)) (may-gone refl m e)
-
-  pub schema-here : (m : Maybe aName N i) (ts : List Tok) → (codeAt N i ≡ node-absent → ⊥)
-      → (w : Whole aName N i) × (mayPiece m .toks ++ (choose (eqb (mayPiece m .code) node-absent) [] (tok DOT ∷ []) ++ ts) ≡ pieceAt w .toks ++ (tok DOT ∷ ts))
-  unfolding choose
-  schema-here m ts h =
-      let k = may-here refl m h in
-      (k .0, ap (λ p. p .toks ++ (choose (eqb (p .code) node-absent) [] (tok DOT ∷ []) ++ ts)) (k .1) ∙ ap (λ b. pieceAt (k .0) .toks ++ (choose b [] (tok DOT ∷ []) ++ ts)) (piece-there refl (k .0)))
 
 -- ── tokens that are some ──
 pub record Spoken (ts : List Tok) : Type 0 where

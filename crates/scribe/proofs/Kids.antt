@@ -330,20 +330,6 @@ after-first {A} {B} {N} {j} (shaped-next {c = c} {d = d} {S = S} {ks = x} {ns = 
     go (no-child e) = only-first (subst (λ z. Kids1 (must A) N j (mk c d x z)) (sym e) (kids1 (must A) (shaped-next n s shaped-end) (subst (λ z. Stands N j (mk c d x z)) e st)))
     go (last-child y) = last-after (youngest (snoc-on n s y (λ z. z)) st)
 
-pub after-first-only : {A B : Class} {N : List ℕ} {j : ℕ} {ks : Nodes} → Shaped (A ▸ manyOf B) ks → Stands N j ks → count ks ≤ 1 → Kids1 (must A) N j ks
-after-first-only {A} {B} {N} {j} {ks} h st few = go (after-first h st)
-  where
-    go : AfterFirst A B N j ks → Kids1 (must A) N j ks
-    go (only-first k) = k
-    go (last-after y) = absurd (let a = some-counted (y .are) in let b = y .counted in omega (arith, a, b, few))
-
-pub after-first-last : {A B : Class} {N : List ℕ} {j : ℕ} {ks : Nodes} → Shaped (A ▸ manyOf B) ks → Stands N j ks → 1 < count ks → Youngest B (A ▸ manyOf B) N j ks
-after-first-last {A} {B} {N} {j} {ks} h st more = go (after-first h st)
-  where
-    go : AfterFirst A B N j ks → Youngest B (A ▸ manyOf B) N j ks
-    go (only-first k) = absurd (let b = k .counted in omega (arith, b, more))
-    go (last-after y) = y
-
 -- ── CASE's row: a base, pairs of WHEN and THEN, ELSE ──
 -- a base that may be absent, and pairs after it
 pub data WhenPairs : Nodes → Type 0 where

@@ -8,11 +8,10 @@ use lib.Dec.{eqb}
 use native.Mathlib.Omega.{arith}
 use Rattle.theory.specs.Trees.{Tok}
 use Rattle.theory.specs.Table.{both, pick}
-use Rattle.theory.proofs.Cases.{by-bool, 0≢1, eqb-eq, eqb-true}
+use Rattle.theory.proofs.Cases.{0≢1, eqb-true}
 use Rattle.kinds.specs.Kinds.{COMMA, CASE, WHEN, THEN, ELSE, END}
 use Rattle.grammar.specs.NodeNames.{node-case}
 use Rattle.grammar.specs.Nodes.{Nodes, end, mk, count, beside}
-use Rattle.grammar.specs.Reading.{choose}
 use Rattle.grammar.specs.Meaning.{plainDetail}
 use Rattle.grammar.specs.Writing.{Piece, formed, forms, nodeStr, _!_, butFirst, after, within, joined, each, parted, rows, whens, tok}
 use Rattle.canon.proofs.Folds.{P, P-end, P-beside}
@@ -97,29 +96,6 @@ module _ {C : Class} {R : Shape} {N : List ℕ} {j : ℕ} {ks : Nodes} (y : Youn
 
   pub joined-last : joined (P ks) ≡ joined (P (y .elder)) ++ pieceAt (y .last) .toks
   joined-last = ap joined (y .written) ∙ joined-on (P (y .elder)) (pieceAt (y .last))
-
--- a separator, unless there is none before it
-abbrev pub sepIf : ℕ → Tok → List Tok
-sepIf n t = choose (eqb n 0) [] (t ∷ [])
-
--- .. as a loop goes from the right: what it has yet to write, and what it wrote
-module _ {C : Class} {R : Shape} {N : List ℕ} {j : ℕ} {ks : Nodes} (y : Youngest C R N j ks) where
-  pub parted-step : (t : Tok) (done : List Tok) → parted t (P ks) ++ done ≡ parted t (P (y .elder)) ++ (sepIf (count (y .elder)) t ++ (pieceAt (y .last) .toks ++ done))
-  unfolding choose parted
-  parted-step t done =
-      by-bool (eqb (count (y .elder)) 0)
-      (λ e. let n = eqb-eq (count (y .elder)) 0 e in ap (λ z. z ++ done) (parted-first y t n) ∙ ap (λ z. z ++ (pieceAt (y .last) .toks ++ done)) (sym (parted-none t (y .elder) n)) ∙ ap (λ b. parted t (P (y .elder)) ++ (choose b [] (t ∷ []) ++ (pieceAt (y .last) .toks ++ done))) (sym e))
-      (λ e. let h = not-none (count (y .elder)) e in ap (λ z. z ++ done) (parted-last y t h) ∙ append-assoc (parted t (P (y .elder))) (t ∷ pieceAt (y .last) .toks) done ∙ ap (λ b. parted t (P (y .elder)) ++ (choose b [] (t ∷ []) ++ (pieceAt (y .last) .toks ++ done))) (sym e))
-
-  pub rows-step : (done : List Tok) → rows (P ks) ++ done ≡ rows (P (y .elder)) ++ (sepIf (count (y .elder)) (tok COMMA) ++ (within (pieceAt (y .last) .toks) ++ done))
-  unfolding choose rows
-  rows-step done =
-      by-bool (eqb (count (y .elder)) 0)
-      (λ e. let n = eqb-eq (count (y .elder)) 0 e in ap (λ z. z ++ done) (rows-first y n) ∙ ap (λ z. z ++ (within (pieceAt (y .last) .toks) ++ done)) (sym (ap rows (P-none (y .elder) n))) ∙ ap (λ b. rows (P (y .elder)) ++ (choose b [] (tok COMMA ∷ []) ++ (within (pieceAt (y .last) .toks) ++ done))) (sym e))
-      (λ e. let h = not-none (count (y .elder)) e in ap (λ z. z ++ done) (rows-last y h) ∙ append-assoc (rows (P (y .elder))) (tok COMMA ∷ within (pieceAt (y .last) .toks)) done ∙ ap (λ b. rows (P (y .elder)) ++ (choose b [] (tok COMMA ∷ []) ++ (within (pieceAt (y .last) .toks) ++ done))) (sym e))
-
-  pub joined-step : (done : List Tok) → joined (P ks) ++ done ≡ joined (P (y .elder)) ++ (pieceAt (y .last) .toks ++ done)
-  joined-step done = ap (λ z. z ++ done) (joined-last y) ∙ append-assoc (joined (P (y .elder))) (pieceAt (y .last) .toks) done
 
 pub joined-first : {C : Class} {N : List ℕ} {j : ℕ} {ks : Nodes} (k : Kids1 (must C) N j ks) → joined (P ks) ≡ pieceAt (k .first) .toks
 unfolding joined

@@ -1,14 +1,13 @@
 -- What is written for a node: one piece, by its code and detail and its children's pieces; one-member parentheses are their member's piece.
 -- Assumes nothing.
 use mathlib.Core.Bool.{Bool, true, false}
-use mathlib.Core.List.{List, [], _∷_, _++_}
-use mathlib.Core.Path.{_≡_, refl, sym, ap, _∙_}
+use mathlib.Core.List.{[], _∷_, _++_}
+use mathlib.Core.Path.{_≡_, refl, ap, _∙_}
 use Prim.Native.Nat.{ℕ, _+_, _≤_, _<_}
-use lib.Dec.{eqb, leb}
+use lib.Dec.{eqb}
 use lib.ListN.{length}
 use native.Mathlib.Omega.{arith}
 use borrow.Author.Tests.{lt-leb}
-use Rattle.theory.specs.Trees.{Tok}
 use Rattle.theory.specs.Table.{both, pick}
 use Rattle.theory.proofs.Cases.{by-bool, le-leb, both-r, 0≢1}
 use Rattle.grammar.specs.NodeNames.{node-parens}

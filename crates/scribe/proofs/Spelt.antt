@@ -22,7 +22,7 @@ use Rattle.grammar.specs.Reading.{choose}
 use Rattle.grammar.specs.Meaning.{plainDetail, low, aliasPlain, wordPlain, wayPlain}
 use Rattle.grammar.specs.Writing.{Piece, piece, formed, forms, nodeStr, _!_, at, after, within, joined, parted, rows, grouped, joinOf, joinWords, binaryToks, binaryStr, notIf, tok, toktext}
 use Rattle.canon.proofs.Folds.{P}
-use Rattle.shapes.specs.Shape.{Class, aQuery, aBody, aColumn, aFrom, aSource, aJoin, aConstraint, aSort, anExpr, aName, absence, listOf, anyOf, emptyList, Shape, fin, _▸_, _▸?_, manyOf, someOf, aliased, indexed, Operator, Joining, by-comma, by-words, NullTest, Node, Shaped, shaped-end, shaped-next, shaped-none, shaped-more, shaped-here, shaped-gone, query-node, select-node, values-node, list-node, any-node, star-node, name-star-node, column-node, from-node, join-node, on-node, using-node, table-node, source-node, sort-node, name-node, literal-node, names-node, call-node, star-call-node, parens-node, subquery-node, exists-node, case-node, cast-node, prefix-node, binary-node, null-node, in-list-node, in-query-node, between-node, collate-node}
+use Rattle.shapes.specs.Shape.{Class, aQuery, aBody, aColumn, aFrom, aSource, aJoin, aConstraint, aSort, anExpr, aName, absence, listOf, anyOf, emptyList, Shape, fin, _▸_, _▸?_, manyOf, someOf, aliased, indexed, Joining, by-comma, by-words, Node, Shaped, shaped-end, shaped-next, shaped-none, shaped-more, shaped-here, shaped-gone, query-node, select-node, values-node, list-node, any-node, star-node, name-star-node, column-node, from-node, join-node, on-node, using-node, table-node, source-node, sort-node, name-node, literal-node, names-node, call-node, star-call-node, parens-node, subquery-node, exists-node, case-node, cast-node, prefix-node, binary-node, null-node, in-list-node, in-query-node, between-node, collate-node}
 use Rattle.shapes.proofs.ByCode.{codeSays, ifSo, at-code, TableLine, is-table, SortLine, is-sorting, CallLine, with-list, with-star}
 use Rattle.scribe.proofs.Spelling.{pieceOf, P-node, plain-piece, unwrapped-piece, more-piece, at-fits}
 use Rattle.scribe.proofs.Whole.{Whole, pieceAt}
@@ -135,10 +135,6 @@ module _ {C : Class} {N : List ℕ} {i : ℕ} (w : Whole C N i) where
   unfolding codeSays ifSo both
   binary-kids e = kids2 (must anExpr) (must anExpr) (as-shape (at-code node-binary (w .node) e .1)) (kids-stand w)
 
-  pub binary-operator : w .code ≡ node-binary → Operator (w .detail)
-  unfolding codeSays ifSo both
-  binary-operator e = at-code node-binary (w .node) e .0
-
   pub binary-spelt : w .code ≡ node-binary → (k : Kids2 (must anExpr) (must anExpr) N (i - 1) (w .kids))
       → Spelt (pieceAt w) (binaryStr (w .detail)) (at (binaryStr (w .detail)) (pieceAt (k .first)) ++ (binaryToks (w .detail) ++ at (binaryStr (w .detail) + 1) (pieceAt (k .second))))
   unfolding formed forms pick both plainDetail nodeStr _!_
@@ -147,10 +143,6 @@ module _ {C : Class} {N : List ℕ} {i : ℕ} (w : Whole C N i) where
   pub prefix-kids : w .code ≡ node-prefix → Kids1 (must anExpr) N (i - 1) (w .kids)
   unfolding codeSays ifSo both
   prefix-kids e = kids1 (must anExpr) (as-shape (at-code node-prefix (w .node) e .1)) (kids-stand w)
-
-  pub prefix-operator : w .code ≡ node-prefix → 0 < prefixOf (w .detail)
-  unfolding codeSays ifSo both
-  prefix-operator e = at-code node-prefix (w .node) e .0
 
   pub prefix-spelt : w .code ≡ node-prefix → (k : Kids1 (must anExpr) N (i - 1) (w .kids))
       → Spelt (pieceAt w) (prefixOf (w .detail)) (tok (w .detail) ∷ at (prefixOf (w .detail)) (pieceAt (k .first)))
@@ -161,10 +153,6 @@ module _ {C : Class} {N : List ℕ} {i : ℕ} (w : Whole C N i) where
   unfolding codeSays ifSo both
   null-test-kids e = kids1 (must anExpr) (as-shape (at-code node-null-test (w .node) e .1)) (kids-stand w)
 
-  pub null-tested : w .code ≡ node-null-test → NullTest (w .detail)
-  unfolding codeSays ifSo both
-  null-tested e = at-code node-null-test (w .node) e .0
-
   pub null-test-spelt : w .code ≡ node-null-test → (k : Kids1 (must anExpr) N (i - 1) (w .kids))
       → Spelt (pieceAt w) 4 (at 4 (pieceAt (k .first)) ++ (tok (w .detail) ∷ []))
   unfolding formed forms pick both plainDetail nodeStr _!_
@@ -173,10 +161,6 @@ module _ {C : Class} {N : List ℕ} {i : ℕ} (w : Whole C N i) where
   pub between-kids : w .code ≡ node-between → Kids3 (must anExpr) (must anExpr) (must anExpr) N (i - 1) (w .kids)
   unfolding codeSays ifSo both
   between-kids e = kids3 (must anExpr) (must anExpr) (must anExpr) (as-shape (at-code node-between (w .node) e .1)) (kids-stand w)
-
-  pub between-detail : w .code ≡ node-between → w .detail ≤ 1
-  unfolding codeSays ifSo both
-  between-detail e = at-code node-between (w .node) e .0
 
   pub between-spelt : w .code ≡ node-between → (k : Kids3 (must anExpr) (must anExpr) (must anExpr) N (i - 1) (w .kids))
       → Spelt (pieceAt w) 4 (at 4 (pieceAt (k .first)) ++ (notIf (w .detail) ++ (tok BETWEEN ∷ (at 5 (pieceAt (k .second)) ++ (tok AND ∷ at 5 (pieceAt (k .third)))))))
@@ -187,10 +171,6 @@ module _ {C : Class} {N : List ℕ} {i : ℕ} (w : Whole C N i) where
   unfolding codeSays ifSo both
   in-list-kids e = kids2 (must anExpr) (must (anyOf anExpr)) (as-shape (at-code node-in-list (w .node) e .1)) (kids-stand w)
 
-  pub in-list-detail : w .code ≡ node-in-list → w .detail ≤ 1
-  unfolding codeSays ifSo both
-  in-list-detail e = at-code node-in-list (w .node) e .0
-
   pub in-list-spelt : w .code ≡ node-in-list → (k : Kids2 (must anExpr) (must (anyOf anExpr)) N (i - 1) (w .kids))
       → Spelt (pieceAt w) 4 (at 4 (pieceAt (k .first)) ++ (notIf (w .detail) ++ (tok IN ∷ within ((pieceAt (k .second)) .toks))))
   unfolding formed forms pick both plainDetail nodeStr _!_
@@ -199,10 +179,6 @@ module _ {C : Class} {N : List ℕ} {i : ℕ} (w : Whole C N i) where
   pub in-query-kids : w .code ≡ node-in-query → Kids2 (must anExpr) (must aQuery) N (i - 1) (w .kids)
   unfolding codeSays ifSo both
   in-query-kids e = kids2 (must anExpr) (must aQuery) (as-shape (at-code node-in-query (w .node) e .1)) (kids-stand w)
-
-  pub in-query-detail : w .code ≡ node-in-query → w .detail ≤ 1
-  unfolding codeSays ifSo both
-  in-query-detail e = at-code node-in-query (w .node) e .0
 
   pub in-query-spelt : w .code ≡ node-in-query → (k : Kids2 (must anExpr) (must aQuery) N (i - 1) (w .kids))
       → Spelt (pieceAt w) 4 (at 4 (pieceAt (k .first)) ++ (notIf (w .detail) ++ (tok IN ∷ within ((pieceAt (k .second)) .toks))))
@@ -291,10 +267,6 @@ module _ {C : Class} {N : List ℕ} {i : ℕ} (w : Whole C N i) where
   unfolding codeSays ifSo both
   select-kids e = kids5 (must (listOf aColumn)) (may aFrom) (may anExpr) (may (anyOf anExpr)) (may anExpr) (as-shape (at-code node-select (w .node) e .1)) (kids-stand w)
 
-  pub select-detail : w .code ≡ node-select → w .detail ≤ 2
-  unfolding codeSays ifSo both
-  select-detail e = at-code node-select (w .node) e .0
-
   pub select-spelt : w .code ≡ node-select → (k : Kids5 (must (listOf aColumn)) (may aFrom) (may anExpr) (may (anyOf anExpr)) (may anExpr) N (i - 1) (w .kids))
       → Spelt (pieceAt w) 0 (tok SELECT ∷ (choose (eqb (w .detail) 1) (tok DISTINCT ∷ []) [] ++ ((pieceAt (k .first)) .toks ++ ((mayPiece (k .second)) .toks ++ (after (tok WHERE ∷ []) (mayPiece (k .third)) ++ (grouped (mayPiece (k .fourth)) ++ after (tok HAVING ∷ []) (mayPiece (k .fifth))))))))
   unfolding formed forms pick both plainDetail nodeStr _!_
@@ -304,10 +276,6 @@ module _ {C : Class} {N : List ℕ} {i : ℕ} (w : Whole C N i) where
   unfolding codeSays ifSo both
   column-kids e = kids2 (must anExpr) (may aName) (column-shape (w .detail) (as-shape (at-code node-column (w .node) e .1))) (kids-stand w)
 
-  pub column-detail : w .code ≡ node-column → w .detail ≤ 2
-  unfolding codeSays ifSo both
-  column-detail e = at-code node-column (w .node) e .0
-
   pub column-spelt : w .code ≡ node-column → (k : Kids2 (must anExpr) (may aName) N (i - 1) (w .kids))
       → Spelt (pieceAt w) 0 ((pieceAt (k .first)) .toks ++ after (tok AS ∷ []) (mayPiece (k .second)))
   unfolding formed forms pick both plainDetail nodeStr _!_
@@ -316,10 +284,6 @@ module _ {C : Class} {N : List ℕ} {i : ℕ} (w : Whole C N i) where
   pub query-source-kids : w .code ≡ node-query-source → Kids2 (must aQuery) (may aName) N (i - 1) (w .kids)
   unfolding codeSays ifSo both
   query-source-kids e = kids2 (must aQuery) (may aName) (column-shape (w .detail) (as-shape (at-code node-query-source (w .node) e .1))) (kids-stand w)
-
-  pub query-source-detail : w .code ≡ node-query-source → w .detail ≤ 2
-  unfolding codeSays ifSo both
-  query-source-detail e = at-code node-query-source (w .node) e .0
 
   pub query-source-spelt : w .code ≡ node-query-source → (k : Kids2 (must aQuery) (may aName) N (i - 1) (w .kids))
       → Spelt (pieceAt w) 0 (within ((pieceAt (k .first)) .toks) ++ after (tok AS ∷ []) (mayPiece (k .second)))
@@ -456,34 +420,6 @@ module _ {C : Class} {N : List ℕ} {i : ℕ} (w : Whole C N i) where
       → Spelt (pieceAt w) 12 ((pieceAt (k .first)) .toks ++ within (choose (eqb (w .detail) 1) (tok DISTINCT ∷ []) [] ++ (pieceAt (k .second)) .toks))
   unfolding choose
   call-args-spelt e d k = re-spelt (call-spelt w e k) (ap (λ b. (pieceAt (k .first)) .toks ++ within (choose b (tok STAR ∷ []) (choose (eqb (w .detail) 1) (tok DISTINCT ∷ []) [] ++ (pieceAt (k .second)) .toks))) (differs (w .detail) 2 d))
-
-  pub call-args-kids : w .code ≡ node-call → (w .detail ≡ 2 → ⊥) → Kids2 (must aName) (must (anyOf anExpr)) N (i - 1) (w .kids)
-  call-args-kids e d = go (call-kids w e)
-    where
-      go : CallKids w → Kids2 (must aName) (must (anyOf anExpr)) N (i - 1) (w .kids)
-      go (call-args h k) = k
-      go (call-star h k) = absurd (d h)
-
-  pub call-star-kids : w .code ≡ node-call → w .detail ≡ 2 → Kids2 (must aName) (must emptyList) N (i - 1) (w .kids)
-  call-star-kids e d = go (call-kids w e)
-    where
-      go : CallKids w → Kids2 (must aName) (must emptyList) N (i - 1) (w .kids)
-      go (call-args h k) = absurd (omega (arith, h, d))
-      go (call-star h k) = k
-
-  pub table-detail : w .code ≡ node-table → (w .detail % 4 ≤ 2) × (w .detail / 4 ≤ 2)
-  unfolding codeSays ifSo both
-  table-detail e = go (at-code node-table (w .node) e)
-    where
-      go : TableLine (w .detail) (w .shape) → (w .detail % 4 ≤ 2) × (w .detail / 4 ≤ 2)
-      go (is-table m b q x y same) = (omega (arith, q, x, y), omega (arith, q, x, y))
-
-  pub sort-detail : w .code ≡ node-sort → (w .detail % 4 ≤ 2) × (w .detail / 4 ≤ 2)
-  unfolding codeSays ifSo both
-  sort-detail e = go (at-code node-sort (w .node) e)
-    where
-      go : SortLine (w .detail) (w .shape) → (w .detail % 4 ≤ 2) × (w .detail / 4 ≤ 2)
-      go (is-sorting m b q x y same) = (omega (arith, q, x, y), omega (arith, q, x, y))
 
 -- ── COMMA, or words and JOIN ──
 pub join-comma : {d : ℕ} → Joining d → d < 64 → joinOf d ≡ tok COMMA ∷ []

@@ -1,7 +1,7 @@
 -- The turns of the writer's loops: what is yet to be written before a turn and after it, and all of it written at the end. Along first operands
 -- (along-turn, bare-goes, bare-ends), parted lists (parted-more, ..), VALUES' rows (rows-more, ..), FROM's parts (joined-more, ..), CASE (case-more, ..).
 -- Assumes nothing.
-use mathlib.Core.Bool.{true, false}
+use mathlib.Core.Bool.{false}
 use mathlib.Core.List.{List, [], _∷_, _++_, append-assoc, append-nil}
 use mathlib.Core.Logic.{_⊎_, inl, inr}
 use mathlib.Core.Path.{_≡_, refl, sym, ap, _∙_, subst}

@@ -1,19 +1,18 @@
 -- From the walks of a table to the call's promise. Assumes nothing.
 use mathlib.Core.List.{List, [], _∷_}
-use mathlib.Core.Path.{_≡_, refl, sym, ap, _∙_, subst}
-use Prim.Native.Nat.{ℕ, _+_, _-_, _*_, _<_, _≤_}
+use mathlib.Core.Path.{_≡_, refl, subst}
+use Prim.Native.Nat.{ℕ, _+_, _-_, _<_, _≤_}
 use lib.ListN.{length}
 use native.Mathlib.Omega.{arith}
 use Rattle.theory.specs.Trees.{Tok}
-use Rattle.grammar.specs.Sizes.{TOKENS}
 use Rattle.grammar.specs.NodeNames.{node-query}
-use Rattle.grammar.specs.Promise.{Reads, Writes}
+use Rattle.grammar.specs.Promise.{Reads}
 use Rattle.shapes.specs.Shape.{aQuery}
 use Rattle.scribe.proofs.Standing.{Puts}
 use Rattle.scribe.proofs.Tokens.{puts-text}
 use Rattle.scribe.proofs.Whole.{Whole, pieceAt}
 use Rattle.scribe.proofs.Spelt.{query-is}
-use Rattle.scribe.proofs.Parts.{Coded, codedToks, Spells}
+use Rattle.scribe.proofs.Parts.{codedToks, Spells}
 use Rattle.scribe.proofs.Length.{toks-few}
 use Rattle.scribe.proofs.Command.{read-short, writes-whole, writes-short}
 use Rattle.reader.specs.Answers.{Few}

@@ -1,16 +1,14 @@
 -- What the reads of the table and the writing of one token come to. Assumes nothing.
-use mathlib.Core.Bool.{Bool, true, false}
 use mathlib.Core.List.{List, [], _∷_, map}
 use mathlib.Core.Logic.{_⊎_, inl, inr}
-use mathlib.Core.Path.{_≡_, refl, sym, ap, ap₂, _∙_, subst, subst⁻¹}
+use mathlib.Core.Path.{_≡_, refl, sym, ap, ap₂, _∙_}
 use Prim.Native.Nat.{ℕ, zero, suc, _+_, _-_, _*_, _<_, _≤_}
-use lib.Dec.{eqb}
 use lib.ListN.{length, getD, set}
 use denote.Ref.{RefT, now}
 use native.Mathlib.Omega.{arith}
 use borrow.Author.Tests.{ne-eqb}
 use Rattle.theory.proofs.Cases.{eqb-true}
-use Rattle.kinds.specs.Strength.{strengthOf, strengthTable, entryOf}
+use Rattle.kinds.specs.Strength.{strengthOf, entryOf}
 use Rattle.kinds.proofs.StrengthTable.{past, entries}
 use Rattle.grammar.specs.Sizes.{WIDTH}
 use Rattle.grammar.specs.Reading.{choose}
@@ -23,7 +21,7 @@ use Rattle.scribe.proofs.Whole.{Whole, beforeOf}
 use Rattle.scribe.proofs.Kids.{known}
 use Rattle.scribe.proofs.Clauses.{codeAt, childrenAt}
 use Rattle.scribe.proofs.Leading.{backs}
-use Rattle.writer.specs.Pages.{Lists, nodesOf, strengthsOf, laneIn, Ruled, Field, First}
+use Rattle.writer.specs.Pages.{Lists, nodesOf, strengthsOf, Ruled, Field}
 
 -- a list of those lent, at a place
 pub list-is : (io : Lists) (k : ℕ) (d : RefT (List ℕ)) → d .now ≡ [] → (getD io k d) .now ≡ getD (map now io) k []

@@ -1,32 +1,29 @@
 -- From what a function of the cycle is given to what it gives its callees, and its tokens by theirs. Assumes nothing.
-use mathlib.Core.Bool.{Bool, true, false}
+use mathlib.Core.Bool.{true, false}
 use mathlib.Core.List.{List, [], _∷_, _++_, append-assoc, append-nil}
 use mathlib.Core.Logic.{_⊎_, inl, inr, ⊎-elim}
-use mathlib.Core.Path.{_≡_, refl, sym, ap, ap₂, _∙_, subst, subst⁻¹}
-use Prim.Native.Nat.{ℕ, zero, suc, _+_, _-_, _*_, _<_, _≤_}
+use mathlib.Core.Path.{_≡_, refl, sym, ap, ap₂, _∙_}
+use Prim.Native.Nat.{ℕ, _+_, _-_, _<_, _≤_}
 use lib.Dec.{eqb}
 use native.Mathlib.Omega.{arith}
-use borrow.Author.Tests.{ne-eqb}
 use Rattle.theory.specs.Trees.{Tok}
 use Rattle.theory.proofs.Cases.{0≢1, eqb-true, eqb-eq, by-bool}
-use Rattle.kinds.specs.Kinds.{AND, AS, BETWEEN, BY, CASE, CAST, COMMA, DISTINCT, DOT, ELSE, END, EXISTS, FROM, GROUP, HAVING, IN, LP, ON, ORDER, RP, STAR, USING, VALUES}
-use Rattle.kinds.specs.Strength.{prefixOf}
-use Rattle.grammar.specs.NodeNames.{node-absent, node-query, node-select, node-values, node-list, node-from, node-join, node-on, node-using, node-table, node-query-source, node-names, node-call, node-parens, node-subquery, node-exists, node-case, node-cast, node-prefix, node-binary, node-in-list, node-in-query, node-between}
-use Rattle.grammar.specs.Nodes.{count}
+use Rattle.kinds.specs.Kinds.{AND, AS, BETWEEN, BY, CASE, CAST, DISTINCT, DOT, ELSE, END, EXISTS, FROM, GROUP, IN, LP, ON, ORDER, RP, STAR, USING}
+use Rattle.grammar.specs.NodeNames.{node-query, node-list, node-join, node-on, node-using, node-names, node-call, node-parens, node-subquery, node-exists, node-case, node-cast, node-prefix, node-binary, node-in-list, node-in-query, node-between}
 use Rattle.grammar.specs.Reading.{choose}
-use Rattle.grammar.specs.Writing.{Piece, at, after, within, parted, rows, joined, grouped, binaryToks, binaryStr, notIf, nodeStr, tok}
+use Rattle.grammar.specs.Writing.{at, after, within, parted, rows, grouped, binaryToks, binaryStr, notIf, nodeStr, tok}
 use Rattle.canon.proofs.Folds.{P}
 use Rattle.shapes.specs.Shape.{Class, aQuery, aBody, aColumn, aFrom, aSource, aJoin, aConstraint, aSort, anExpr, aName, absence, listOf, anyOf, emptyList, manyOf, Shaped, shaped-more}
 use Rattle.scribe.proofs.Standing.{Puts}
-use Rattle.scribe.proofs.Tokens.{puts-as, nothing-put, _after_}
+use Rattle.scribe.proofs.Tokens.{puts-as, _after_}
 use Rattle.scribe.proofs.Whole.{Whole, pieceAt, beforeOf}
-use Rattle.scribe.proofs.Kids.{known, kids-stand, Maybe, mayPiece, may-there, CaseEnd}
-use Rattle.scribe.proofs.Spelt.{binary-kids, between-kids, in-list-kids, in-query-kids, prefix-kids, prefix-spelt, subquery-kids, subquery-spelt, exists-kids, exists-spelt, cast-kids, cast-spelt, on-kids, on-spelt, using-shape, using-spelt, query-kids, query-spelt, select-kids, select-spelt, query-source-kids, query-source-spelt, join-kids, join-spelt, names-shape, names-spelt, values-spelt, from-spelt, list-spelt, call-kids, CallKids, call-args, call-star, call-args-spelt, call-star-spelt, parens-shape, parens-spelt, str-binary, at-zero, after-here, query-is, body-is, from-is, join-is, source-is, constraint-is, list-is, any-is, expr-range, column-range, sort-is}
+use Rattle.scribe.proofs.Kids.{known, kids-stand, Maybe, mayPiece, may-there}
+use Rattle.scribe.proofs.Spelt.{binary-kids, between-kids, in-list-kids, in-query-kids, subquery-kids, subquery-spelt, exists-kids, exists-spelt, cast-kids, cast-spelt, on-kids, on-spelt, using-shape, using-spelt, join-kids, join-spelt, names-shape, names-spelt, list-spelt, call-kids, CallKids, call-args, call-star, call-args-spelt, call-star-spelt, parens-shape, parens-spelt, str-binary, at-zero, after-here, query-is, join-is, source-is, list-is, any-is, expr-range, column-range, sort-is}
 use Rattle.scribe.proofs.Lists.{caseToks, case-kids, case-spelt, case-ended}
-use Rattle.scribe.proofs.Clauses.{codeAt, childrenAt, may-gone, may-here, clause-here, clause-gone, order-none, order-some, group-none, group-some, some-from, no-from, constraint-here, constraint-gone}
-use Rattle.scribe.proofs.Leading.{Led, binary-led, between-led, in-list-led, in-query-led}
-use Rattle.scribe.proofs.Parts.{Coded, Term, isTerm, Operand, Leaf, Row, Terms, Inside, a-query, members, Perhaps, not-any, some-terms, Part, leadsOf, nodeToks, codedToks, termToks, operandToks, leafToks, mayToks, bareToks, rowToks, termsToks, innerToks, insideToks, perhapsToks, limitToks, groupToks, tailToks, whensToks, callToks, argsToks, partToks, constraintToks, joinToks, sourceOf, usingToks, Spells, Tailed}
-use Rattle.writer.specs.Pages.{Lists, nodesOf, laneIn, Field, Taken, Trails, Bounds}
+use Rattle.scribe.proofs.Clauses.{codeAt, childrenAt, order-none, order-some, group-none, group-some, constraint-here, constraint-gone}
+use Rattle.scribe.proofs.Leading.{binary-led, between-led, in-list-led, in-query-led}
+use Rattle.scribe.proofs.Parts.{Coded, Term, isTerm, Operand, Leaf, Row, Terms, Inside, a-query, members, Perhaps, not-any, some-terms, Part, codedToks, termToks, operandToks, mayToks, bareToks, termsToks, innerToks, insideToks, perhapsToks, whensToks, callToks, argsToks, partToks, constraintToks, joinToks, sourceOf, usingToks, Spells, Tailed}
+use Rattle.writer.specs.Pages.{Lists, nodesOf, laneIn, Field, Trails, Bounds}
 use Rattle.writer.proofs.Leaves.{code-at, code-of, detail-of, children-at}
 use Rattle.writer.proofs.Said.{spell-at, expr-term, leads-within}
 

@@ -1,33 +1,31 @@
 -- What each of the writer's functions writes, by the tests that it makes. Assumes nothing.
 use mathlib.Core.Bool.{Bool, true, false, cond}
-use mathlib.Core.List.{List, [], _∷_, _++_, append-assoc, append-nil}
+use mathlib.Core.List.{List, [], _∷_, _++_, append-assoc}
 use mathlib.Core.Logic.{_⊎_, inl, inr, ⊎-elim}
 use mathlib.Core.Path.{_≡_, refl, sym, ap, ap₂, _∙_, subst, subst⁻¹}
-use Prim.Native.Nat.{ℕ, zero, suc, _+_, _-_, _*_, _%_, _/_, _<_, _≤_}
-use lib.Dec.{eqb, leb, ltb}
-use lib.ListN.{length, getD}
+use Prim.Native.Nat.{ℕ, suc, _+_, _-_, _/_, _<_, _≤_}
+use lib.Dec.{eqb}
 use native.Mathlib.Omega.{arith}
 use borrow.Author.Tests.{ne-eqb, lt-leb}
 use Rattle.theory.specs.Trees.{Tok}
 use Rattle.theory.specs.Table.{pick, both}
-use Rattle.theory.proofs.Cases.{0≢1, eqb-true, eqb-eq, by-bool, le-leb}
-use Rattle.kinds.specs.Kinds.{AS, ID, STRING, INDEXED, JOIN-KW, INTEGER, FLOAT, BLOB, VARIABLE, CTIME-KW, NULL, STAR, DOT, NOT, IS, LIKE-KW, COMMA, JOIN, NULLS, FIRST, LAST, COLLATE, LP, BY}
+use Rattle.theory.proofs.Cases.{0≢1, eqb-true, eqb-eq, le-leb}
+use Rattle.kinds.specs.Kinds.{AS, ID, STRING, INDEXED, JOIN-KW, INTEGER, FLOAT, BLOB, VARIABLE, CTIME-KW, NULL, STAR, DOT, NOT, IS, LIKE-KW, JOIN, NULLS, FIRST, LAST, COLLATE, LP, BY}
 use Rattle.kinds.specs.Strength.{strengthOf}
 use Rattle.words.specs.Fewest.{fewestOf, wordsOf, present}
 use Rattle.words.specs.declared.Writing.{Writing}
-use Rattle.grammar.specs.NodeNames.{node-absent, node-star, node-name-star, node-column, node-sort, node-null, node-names, node-parens, node-table, node-join, node-binary, node-null-test, node-in-list, node-in-query, node-between, node-collate}
-use Rattle.grammar.specs.Nodes.{count}
+use Rattle.grammar.specs.NodeNames.{node-absent, node-star, node-name-star, node-column, node-sort, node-null, node-names, node-parens, node-table, node-join, node-null-test}
 use Rattle.grammar.specs.Reading.{choose}
-use Rattle.grammar.specs.Writing.{Piece, tok, toktext, after, nodeStr, binaryToks, binaryStr, joinOf, joinWords}
+use Rattle.grammar.specs.Writing.{tok, toktext, after, nodeStr, binaryToks, binaryStr, joinOf, joinWords}
 use Rattle.shapes.specs.Shape.{Class, aName, anExpr, aColumn, aSort, aSource, aJoin, aQuery, aBody, aFrom, aConstraint, absence, listOf, anyOf, emptyList, Joining}
 use Rattle.scribe.proofs.Standing.{Puts}
-use Rattle.scribe.proofs.Tokens.{puts-as, nothing-put, _after_}
-use Rattle.scribe.proofs.Whole.{Whole, pieceAt, beforeOf}
-use Rattle.scribe.proofs.Kids.{known, Maybe, mayPiece, may-there, Kids1, Kids2, Kids4, must, may}
-use Rattle.scribe.proofs.Spelt.{literalKind, nameKind, next-of, name-spelt, null-spelt, star-spelt, name-star-kids, name-star-spelt, literal-spelt, expr-range, column-range, sort-is, source-is, join-is, join-detail, join-comma, join-worded, parens-one, parens-some, piece-there, table-kids, table-spelt, null-test-kids, collate-kids, column-kids, sort-kids}
-use Rattle.scribe.proofs.Clauses.{codeAt, childrenAt, may-gone, may-here, clause-gone, clause-here}
-use Rattle.scribe.proofs.Leading.{backs, Led, null-test-led, collate-led, column-led, sort-led}
-use Rattle.scribe.proofs.Parts.{Coded, Term, isTerm, Leaf, Part, leadsOf, nodeToks, leafToks, codedToks, aliasToks, schemaToks, titledToks, indexToks, nullsToks, wayToks, joinToks, sourceOf, opens, Spells, Tailed}
+use Rattle.scribe.proofs.Tokens.{puts-as, _after_}
+use Rattle.scribe.proofs.Whole.{Whole, pieceAt}
+use Rattle.scribe.proofs.Kids.{known, Maybe, mayPiece, may-there, Kids4, must, may}
+use Rattle.scribe.proofs.Spelt.{literalKind, nameKind, next-of, name-spelt, null-spelt, star-spelt, name-star-kids, name-star-spelt, literal-spelt, expr-range, column-range, sort-is, source-is, join-is, join-detail, join-worded, parens-one, parens-some, piece-there, table-kids, table-spelt, null-test-kids, collate-kids, column-kids, sort-kids}
+use Rattle.scribe.proofs.Clauses.{codeAt, may-gone, may-here, clause-gone, clause-here}
+use Rattle.scribe.proofs.Leading.{backs, null-test-led, collate-led, column-led, sort-led}
+use Rattle.scribe.proofs.Parts.{Coded, Term, isTerm, Leaf, Part, leadsOf, nodeToks, leafToks, codedToks, aliasToks, schemaToks, titledToks, indexToks, nullsToks, wayToks, joinToks, sourceOf, opens, Spells}
 use Rattle.writer.specs.Pages.{Lists, nodesOf, laneIn, Field, Bared, Taken, Closes}
 use Rattle.writer.proofs.Leaves.{code-at, code-of, detail-of, children-of, backs-most}
 
