@@ -15,10 +15,13 @@ pub use number::with_digit;
 pub use vectors::Expected;
 pub use vectors::expecting;
 pub use vectors::has_number;
+pub use vectors::has_writing;
 pub use vectors::told;
 
-// The most tokens that a line may have.
+// The most tokens that a line may have, and the longest output that it may ask for.
 pub const TOKENS: usize = 8192;
+
+const OUTPUT: u32 = 8192;
 
 // The longest node table that a line may ask for.
 pub const TABLE: u32 = 65536;
@@ -27,6 +30,10 @@ pub const TABLE: u32 = 65536;
 const WORDS: [u8; 28] = *b"table=outk=outt=kinds:texts:";
 
 const AFTER_TABLE: usize = 6;
+
+const AFTER_OUTK: usize = 11;
+
+const AFTER_OUTT: usize = 16;
 
 const AFTER_KINDS: usize = 22;
 
@@ -82,8 +89,10 @@ pub struct Line {
     pub column: u64,
     pub kinds: usize,
     pub texts: usize,
-    // What the second form says after `table=`.
+    // What the second form says after `table=`, `outk=` and `outt=`.
     table: u32,
+    outk: u32,
+    outt: u32,
 }
 
 pub fn begun() -> Line {
@@ -95,6 +104,8 @@ pub fn begun() -> Line {
         kinds: 0,
         texts: 0,
         table: 0,
+        outk: 0,
+        outt: 0,
     }
 }
 
@@ -110,6 +121,15 @@ pub fn is_room(line: Line) -> bool {
 // How many numbers the node table is to have.
 pub fn table(line: Line) -> u32 {
     if line.spelled > 0 { line.table } else { TABLE }
+}
+
+// How many kinds and how many text numbers the writer's output is to have.
+pub fn out_kinds(line: Line) -> u32 {
+    if line.spelled > 0 { line.outk } else { OUTPUT }
+}
+
+pub fn out_texts(line: Line) -> u32 {
+    if line.spelled > 0 { line.outt } else { OUTPUT }
 }
 
 // Whether what was taken is a line of one of the forms.
@@ -214,14 +234,18 @@ fn most(line: Line) -> u32 {
     if line.spelled == AFTER_TABLE {
         TABLE
     } else {
-        u32::MAX
+        OUTPUT
     }
 }
 
-// The number after `=` is the table's where it stands after `table=`.
+// The number after `=` is that of what stands before it.
 fn sized(mut line: Line) -> Line {
-    if line.spelled == AFTER_TABLE {
-        line.table = line.number;
+    let at = line.spelled;
+    match at {
+        AFTER_TABLE => line.table = line.number,
+        AFTER_OUTK => line.outk = line.number,
+        AFTER_OUTT => line.outt = line.number,
+        _ => {}
     }
     line
 }

@@ -4,7 +4,7 @@
 //     => 0 count : code,detail,children,size code,... : kind[.text] ...
 //     => R number place W number place
 //
-// Its numbers are told apart; those after the second colon or after W belong to the writer.
+// Its numbers are told apart, up to the second colon: what is behind that, the writing, is a line of the first form.
 use crate::number::Longer;
 use crate::number::digit;
 use crate::number::with_digit;
@@ -18,7 +18,7 @@ pub struct Expected {
     // One has just ended.
     fresh: bool,
     colons: u8,
-    // The rest is the writer's.
+    // The second colon is behind.
     closed: bool,
     pub wrong: bool,
 }
@@ -38,6 +38,11 @@ pub fn expecting() -> Expected {
 // Whether the last byte ended a number.
 pub fn has_number(e: Expected) -> bool {
     e.fresh
+}
+
+// Whether the rest is the writing.
+pub fn has_writing(e: Expected) -> bool {
+    e.closed
 }
 
 // One byte more; a line end ends the last number.
@@ -83,8 +88,7 @@ fn separator(old: Expected, byte: u8) -> Expected {
             e.closed = e.colons == 1;
             e.colons = 1;
         }
-        b'W' => e.closed = true,
-        b' ' | b',' | b'=' | b'>' | b'R' | b'\n' => {}
+        b' ' | b',' | b'=' | b'>' | b'R' | b'W' | b'\n' => {}
         _ => e.wrong = true,
     }
     e

@@ -1,11 +1,15 @@
 // A reading as the programs see it: what the reader says, and what it leaves in a node table that was clear.
 mod places;
+mod writing;
 
 use lines::Line;
 pub use places::PLACES;
 pub use places::put;
 pub use places::read_places;
+pub use places::write_places;
 use reader::Answer;
+pub use writing::Writing;
+pub use writing::written;
 
 pub struct Reading {
     // 0 for acceptance.

@@ -27,3 +27,19 @@ pub fn read_places<'a>(
     let m = report::within(count, t);
     reader::read(&k[..n], &t[..m], nodes)
 }
+
+// Writes the first `count` tokens.
+pub fn write_places<'a>(
+    kinds: &'a [u32; PLACES],
+    texts: &'a [u32; PLACES],
+    count: usize,
+    nodes: &mut [u32; PLACES],
+    out_kinds: &mut [u32; PLACES],
+    out_texts: &mut [u32; PLACES],
+) -> Answer {
+    let k: &[u32] = kinds;
+    let t: &[u32] = texts;
+    let n = report::within(count, k);
+    let m = report::within(count, t);
+    writer::write(&k[..n], &t[..m], nodes, out_kinds, out_texts)
+}

@@ -1,5 +1,5 @@
 // The sample commands K1 to K13: for each a line with its name, the number and the place of the reader's
-// answer, and a digest of its records.
+// answer, and a digest of its records; and then, after a colon, the canonical writing, where the writer has one.
 use kinds::ALL;
 use kinds::COMMA;
 use kinds::EQ;
@@ -52,6 +52,43 @@ fn show(name: &[u8], got: Answer, nodes: &[u32; PLACES]) {
     if !r.kept {
         say(b" and the table is changed beyond");
     }
+}
+
+// A token; a text number 0 is left out.
+fn token(kind: u32, text: u32) {
+    number(kind as u64);
+    if text > 0 {
+        say(b".");
+        io::print_decimal(STDOUT_FILENO, text as u64);
+    }
+}
+
+// The number at a place of a table, 0 beyond its end.
+fn at(list: &[u32; PLACES], place: usize) -> u32 {
+    if place < PLACES { list[place] } else { 0 }
+}
+
+fn tokens<'a>(kinds: &'a [u32; PLACES], texts: &'a [u32; PLACES], count: usize) {
+    let mut i = 0;
+    while i < count {
+        token(at(kinds, i), at(texts, i));
+        i += 1;
+    }
+}
+
+// What the writer writes, or its refusal.
+fn show_writing<'a>(got: Answer, kinds: &'a [u32; PLACES], texts: &'a [u32; PLACES]) {
+    match got {
+        Answer::Accepted(count) => {
+            say(b" :");
+            tokens(kinds, texts, count);
+        }
+        Answer::Refused(n, place) => {
+            say(b", not written:");
+            number(n as u64);
+            number(place as u64);
+        }
+    }
     say(b"\n");
 }
 
@@ -60,6 +97,22 @@ fn ask<'a>(name: &[u8], kinds: &'a [u32; PLACES], texts: &'a [u32; PLACES], coun
     let mut nodes = [0; PLACES];
     let got = reading::read_places(kinds, texts, count, &mut nodes);
     show(name, got, &nodes);
+    write(kinds, texts, count);
+}
+
+fn write<'a>(kinds: &'a [u32; PLACES], texts: &'a [u32; PLACES], count: usize) {
+    let mut nodes = [0; PLACES];
+    let mut out_kinds = [0; PLACES];
+    let mut out_texts = [0; PLACES];
+    let got = reading::write_places(
+        kinds,
+        texts,
+        count,
+        &mut nodes,
+        &mut out_kinds,
+        &mut out_texts,
+    );
+    show_writing(got, &out_kinds, &out_texts);
 }
 
 fn copy(from: &[u32], to: &mut [u32; PLACES]) {

@@ -7,11 +7,15 @@ use Rattle.replay.proofs.all.Statement.{statement}
 use Rattle.replay.proofs.all.Tie as tie
 
 abbrev Inv-loop : tie.InvT-loop
-Inv-loop fd kinds₀ texts₀ nodes₀ block₀ waiting now₀ turns₀ kinds texts nodes block now turns =
-    (length kinds ≡ length kinds₀) × (length texts ≡ length texts₀) × (length nodes ≡ length nodes₀)
+Inv-loop fd kinds₀ texts₀ nodes₀ wk₀ wt₀ block₀ waiting now₀ turns₀ kinds texts nodes wk wt block now turns =
+    (length kinds ≡ length kinds₀)
+    × (length texts ≡ length texts₀)
+    × (length nodes ≡ length nodes₀)
+    × (length wk ≡ length wk₀)
+    × (length wt ≡ length wt₀)
 
 abbrev μ-loop : tie.MeasureT-loop
-μ-loop fd kinds₀ texts₀ nodes₀ block₀ waiting now₀ turns₀ kinds texts nodes block now turns = turns
+μ-loop fd kinds₀ texts₀ nodes₀ wk₀ wt₀ block₀ waiting now₀ turns₀ kinds texts nodes wk wt block now turns = turns
 
 begun-requires : tie.Need-begun-requires Inv-loop μ-loop
 begun-requires c κs = search needs
@@ -43,6 +47,12 @@ same-length-2 c = search needs
 same-length-3 : tie.Need-same-length-3 Inv-loop μ-loop
 same-length-3 c = search needs
 
+same-length-4 : tie.Need-same-length-4 Inv-loop μ-loop
+same-length-4 c = search needs
+
+same-length-5 : tie.Need-same-length-5 Inv-loop μ-loop
+same-length-5 c = search needs
+
 returns : tie.Need-returns Inv-loop μ-loop
 returns c = search needs
 
@@ -62,4 +72,6 @@ all-spec =
     same-length
     same-length-2
     same-length-3
+    same-length-4
+    same-length-5
     returns)

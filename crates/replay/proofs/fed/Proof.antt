@@ -8,14 +8,16 @@ use Rattle.replay.proofs.fed.Statement.{statement}
 use Rattle.replay.proofs.fed.Tie as tie
 
 abbrev Inv-loop : tie.InvT-loop
-Inv-loop input kinds₀ texts₀ nodes₀ block₀ now₀ i₀ kinds texts nodes block now i =
+Inv-loop input kinds₀ texts₀ nodes₀ wk₀ wt₀ block₀ now₀ i₀ kinds texts nodes wk wt block now i =
     (i ≤ length input)
     × (length kinds ≡ length kinds₀)
     × (length texts ≡ length texts₀)
     × (length nodes ≡ length nodes₀)
+    × (length wk ≡ length wk₀)
+    × (length wt ≡ length wt₀)
 
 abbrev μ-loop : tie.MeasureT-loop
-μ-loop input kinds₀ texts₀ nodes₀ block₀ now₀ i₀ kinds texts nodes block now i = length input - i
+μ-loop input kinds₀ texts₀ nodes₀ wk₀ wt₀ block₀ now₀ i₀ kinds texts nodes wk wt block now i = length input - i
 
 loop-holds : tie.Need-loop-holds Inv-loop μ-loop
 loop-holds c = search needs
@@ -44,6 +46,12 @@ same-length-2 c = search needs
 same-length-3 : tie.Need-same-length-3 Inv-loop μ-loop
 same-length-3 c = search needs
 
+same-length-4 : tie.Need-same-length-4 Inv-loop μ-loop
+same-length-4 c = search needs
+
+same-length-5 : tie.Need-same-length-5 Inv-loop μ-loop
+same-length-5 c = search needs
+
 returns : tie.Need-returns Inv-loop μ-loop
 returns c = search needs
 
@@ -62,4 +70,6 @@ fed-spec =
     same-length
     same-length-2
     same-length-3
+    same-length-4
+    same-length-5
     returns)
