@@ -28,7 +28,7 @@ extern "C" {
 /* The answer of a call. */
 typedef struct {
     uint32_t number; /* CJARVINT_ACCEPTED, or the number of the refusal */
-    size_t place;    /* accepted: how many records, from cjarvint_write how many tokens; refused: see each number. Tokens count from 0 */
+    size_t place;    /* accepted: how many records, from cjarvint_write how many tokens; refused: as said at each number below */
 } cjarvint_answer;
 
 /*
@@ -59,11 +59,12 @@ cjarvint_answer cjarvint_write(const uint32_t *kinds, size_t kinds_length,
                                uint32_t *out_kinds, size_t out_kinds_length,
                                uint32_t *out_texts, size_t out_texts_length);
 
-/* Answers' numbers. They are looked for in this order: 1, 2, the smallest place of 3 to 8 (at one place 3 before 5), 9, 10. */
+/* Answers' numbers, and what their places are; tokens count from 0. They are looked for in this order: 1, 2, the smallest place of
+   3 to 8 (at one place 3 before 5), 9, 10. */
 enum {
     CJARVINT_ACCEPTED = 0,
     CJARVINT_BAD_LISTS = 1,      /* kinds and texts, or both output lists, differ in length, or over 4,096 tokens. Place: 0 */
-    CJARVINT_UNFIT_TOKEN = 2,    /* kind 0 or over 71, or unfit text number of JOIN_KW (1 to 7) or LIKE_KW (1 to 3). Place: the first */
+    CJARVINT_UNFIT_TOKEN = 2,    /* kind 0 or over 71, or a text number of JOIN_KW not in 1 to 7, of LIKE_KW not in 1 to 3. Place: the first */
     CJARVINT_CANNOT_FOLLOW = 3,  /* the tokens before it begin some command, with it they begin none. Place: it */
     CJARVINT_UNFINISHED = 4,     /* the list begins a command and isn't one. Place: how many tokens there are */
     CJARVINT_TOO_DEEP = 5,       /* an expression of level 65 starts. Place: its first token */
