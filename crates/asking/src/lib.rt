@@ -6,6 +6,7 @@ mod names;
 mod refusals;
 mod tree;
 mod unread;
+mod writing;
 
 use lines::Line;
 use reading::Reading;
@@ -106,26 +107,41 @@ fn two(block: &mut [u8; BLOCK], waiting: usize, n: u32, place: usize) -> usize {
     number(block, at, place as u64)
 }
 
-// Writes the answer to a line of the first form, with the records of an acceptance.
-fn in_full(block: &mut [u8; BLOCK], waiting: usize, r: Reading, nodes: &[u32]) -> usize {
+// Writes the answer to a line of the first form, with the records and the writing of an acceptance.
+fn in_full<'a>(
+    block: &mut [u8; BLOCK],
+    waiting: usize,
+    line: Line,
+    r: Reading,
+    kinds: &'a [u32],
+    texts: &'a [u32],
+    nodes: &mut [u32],
+) -> usize {
     let at = two(block, waiting, r.number, r.place);
     if r.number > 0 {
         return byte(block, at, b'\n');
     }
     let parted = bytes(block, at, b" :");
     let end = records(block, parted, nodes, r.used);
-    // The canonical writing goes here, after " : ".
-    byte(block, end, b'\n')
+    writing::tell(block, end, line, kinds, texts, nodes, writing::FULL)
 }
 
 // To one of the second form.
-fn in_short(block: &mut [u8; BLOCK], waiting: usize, r: Reading) -> usize {
+fn in_short<'a>(
+    block: &mut [u8; BLOCK],
+    waiting: usize,
+    line: Line,
+    r: Reading,
+    kinds: &'a [u32],
+    texts: &'a [u32],
+    nodes: &mut [u32],
+) -> usize {
     let named = bytes(block, waiting, b"R ");
     let at = two(block, named, r.number, r.place);
-    byte(block, at, b'\n')
+    writing::tell(block, at, line, kinds, texts, nodes, writing::SHORT)
 }
 
-// In words: a refusal with its token, an accepted reading as a tree.
+// In words: a refusal with its token, an accepted reading as a tree with the writing below it.
 fn in_words<'a>(
     block: &mut [u8; BLOCK],
     waiting: usize,
@@ -134,7 +150,7 @@ fn in_words<'a>(
     r: Reading,
     kinds: &'a [u32],
     texts: &'a [u32],
-    nodes: &[u32],
+    nodes: &mut [u32],
 ) -> usize {
     let head = heading(block, waiting, row);
     let parted = bytes(block, head, b": ");
@@ -145,8 +161,8 @@ fn in_words<'a>(
     let said = bytes(block, parted, b"accepted, ");
     let counted = refusals::many(block, said, r.place, b"record");
     let begun = byte(block, counted, b'\n');
-    // The canonical writing goes after the tree, on a line of its own.
-    tree::draw(block, begun, nodes, r.place)
+    let drawn = tree::draw(block, begun, nodes, r.place);
+    writing::tell(block, drawn, line, kinds, texts, nodes, writing::WORDS)
 }
 
 fn write<'a>(
@@ -157,7 +173,7 @@ fn write<'a>(
     r: Reading,
     kinds: &'a [u32],
     texts: &'a [u32],
-    nodes: &[u32],
+    nodes: &mut [u32],
     aloud: bool,
 ) -> usize {
     if !r.kept {
@@ -167,9 +183,9 @@ fn write<'a>(
         return in_words(block, waiting, row, line, r, kinds, texts, nodes);
     }
     if lines::is_room(line) {
-        return in_short(block, waiting, r);
+        return in_short(block, waiting, line, r, kinds, texts, nodes);
     }
-    in_full(block, waiting, r, nodes)
+    in_full(block, waiting, line, r, kinds, texts, nodes)
 }
 
 // Answers a command. The table is clear before and after.

@@ -74,7 +74,8 @@ pub fn operator(block: &mut [u8; BLOCK], waiting: usize, detail: u32) -> usize {
     }
 }
 
-fn like(block: &mut [u8; BLOCK], waiting: usize, text: u32) -> usize {
+// The word of a LIKE_KW.
+pub fn like(block: &mut [u8; BLOCK], waiting: usize, text: u32) -> usize {
     match text {
         1 => bytes(block, waiting, b"LIKE"),
         2 => bytes(block, waiting, b"GLOB"),

@@ -55,7 +55,7 @@ fn lengths(block: &mut [u8; BLOCK], waiting: usize, line: Line) -> usize {
 }
 
 // The place is how much there is, or would have to be.
-fn missing(block: &mut [u8; BLOCK], waiting: usize, n: u32, place: usize) -> usize {
+pub fn missing(block: &mut [u8; BLOCK], waiting: usize, n: u32, place: usize) -> usize {
     if n == 4 {
         let said = bytes(block, waiting, b": the command ends too soon, after ");
         return many(block, said, place, b"token");
