@@ -8,4 +8,4 @@ sha256sum -c --quiet originals.sha256
 python3 gen_token_rs.py
 cargo build --release --quiet --target-dir "$T/crate"
 "$R/bench/build.sh" "$R/crates" "$T/reader"
-gcc -O2 -o "$T/drive" drive.c "$T/reader/cap/reader.o" -Wl,--gc-sections
+gcc -O2 -o "$T/drive" drive.c "$T/reader/cap/both.o" -Wl,--gc-sections
