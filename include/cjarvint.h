@@ -81,8 +81,8 @@ enum {
 #define CJARVINT_TABLE(tokens) (32 * ((tokens) + 1))
 /* Tokens of a writing from so many records, at most. The usual is about as many as the command has; refusal 10 says how many. */
 #define CJARVINT_WRITING(records) (12 * (records))
-/* Bytes of stack that a call took at worst: cjarvint_write 16,400, cjarvint_read 15,920. Measured (bench/firmware.sh), not proved. */
-#define CJARVINT_STACK 16400
+/* Bytes of stack that a call took at worst: cjarvint_write 16,320, cjarvint_read 15,920. Measured (bench/firmware.sh), not proved. */
+#define CJARVINT_STACK 16320
 
 /*
  * A record is four numbers: code, detail, children, size. Its children stand before it, left to right, each after its own; size
