@@ -1,5 +1,6 @@
 #!/bin/bash
-# Builds the reader and the writer as rt compiles them, runs the vectors, and prints the frames, the deepest stack and the instructions a token.
+# Builds the reader and the writer as rt compiles them, runs the vectors, and prints the frames, the deepest
+# stack, the instructions a token, how they grow and what the worst input costs.
 # all.sh [VECTORS [NAME..]]: VECTORS is a folder with commands.txt and room.txt (default: the program replay's data), NAME only these inputs.
 # ORACLE names the crate's program, if it is to be counted beside ours.
 set -e
@@ -12,3 +13,8 @@ python3 "$H/frames.py" "$T/cap/both.s"
 "$T/drive" stack "$T/routes.txt" > "$T/stack.txt"; sort -rn "$T/stack.txt" | awk '{k = $7 " " $8 " " $9 " " $10} !seen[k]++' | head -4; tail -1 "$T/stack.txt"
 "$T/drive" stack "$T/routes.txt" w | tail -1
 "$H/count.sh" "$T" "$@"
+# how it grows with the length of one form, and the worst input
+mkdir -p "$T/inputs"; python3 "$H/growth.py" "$T/inputs"
+for f in columns sums in values joins case; do ORACLE='' "$H/count.sh" "$T" "$f-200" "$f-4000"; done | awk -F'|' '
+  { print } NR % 2 { r = $4; w = $5 } NR % 2 == 0 { sub(/-4000 /, "", $2); printf "|%s, 4,000 by 200 | | %.2f | %.2f |\n", $2, $4 / r, $5 / w }'
+ORACLE='' "$H/count.sh" "$T" worst

@@ -3,6 +3,7 @@
 use kinds::COMMA;
 use kinds::DOT;
 use kinds::ID;
+use kinds::INDEXED;
 use kinds::JOIN_KW;
 use kinds::LIKE_KW;
 use kinds::LP;
@@ -27,17 +28,17 @@ fn at(list: &[u32], place: usize) -> u32 {
     if place < list.len() { list[place] } else { 0 }
 }
 
-// A text number, where it is not 0.
+// A text number, after a mark.
 fn text(block: &mut [u8; BLOCK], waiting: usize, mark: u8, n: u32) -> usize {
-    if n == 0 {
-        return waiting;
-    }
     let marked = byte(block, waiting, mark);
     number(block, marked, wide(n))
 }
 
 fn in_numbers(block: &mut [u8; BLOCK], waiting: usize, kind: u32, n: u32) -> usize {
     let told = number(block, waiting, wide(kind));
+    if n == 0 {
+        return told;
+    }
     text(block, told, b'.', n)
 }
 
@@ -55,9 +56,17 @@ fn in_words(block: &mut [u8; BLOCK], waiting: usize, kind: u32, n: u32) -> usize
     }
 }
 
+// Whether a token has a text number to show; INDEXED has one only where it is a name.
+fn has_text(kind: u32, n: u32) -> bool {
+    if kind == INDEXED {
+        return n > 0;
+    }
+    kinds::reads_text(kind)
+}
+
 fn named(block: &mut [u8; BLOCK], waiting: usize, kind: u32, n: u32) -> usize {
     let said = crate::names::operator(block, waiting, kind);
-    if n == 0 {
+    if !has_text(kind, n) {
         return said;
     }
     let parted = byte(block, said, b' ');

@@ -4,6 +4,7 @@ pub mod Named
 pub mod Grown
 pub mod Walk
 pub mod Fill
+pub mod Borrowed
 -- The table and its rows, as recursive descent meets them:
 pub mod Equations
 pub mod SameRow

@@ -73,10 +73,11 @@ literal t = one (literalCode (t .kind)) (choose (eqb (t .kind) NULL) 0 (t .text)
 abbrev pub isQueryVal : Val → Bool
 isQueryVal v = isQuery (v .row)
 
--- a member of the column list: what is no column yet is an expression without an alias. "5, 6 | STAR; name STAR: name"
+-- what DOT STAR after a name says, by its code: "5, 6 | STAR; name STAR: name"
 abbrev pub NAME-STAR : ℕ
-NAME-STAR = 6
+NAME-STAR = node-name-star
 
+-- a member of the column list: what is no column yet is an expression without an alias
 unfoldable pub column : Val → Val
 column v = pick (eqb (v .row) row-star) v (λ w. pick (eqb (v .row) row-as) v (λ w. pick (eqb (v .row) row-bare) v
     (λ w. pick (eqb (v .num) NAME-STAR) v (λ w. one node-column 0 (v ∷ none-there ∷ [])))))

@@ -135,7 +135,7 @@ lines =
     ∷ operator (CONCAT ∷ []) (binary 9)  -- binary, strength 9
     ∷ operator (COLLATE ∷ []) (strong 10 row-collate (nt (any Name) ∷ []))
     ∷ operand (PLUS ∷ MINUS ∷ BITNOT ∷ []) (strong 11 row-prefix (nt (E 11) ∷ []))  -- PLUS MINUS BITNOT before
-    -- ── Strength 12: "NULL and kinds 3, 6 to 10; one to three names joined by DOT, the first not STRING; ID, KWID or JOIN-KW, then ( ), ( STAR ) or (
+    -- ── Strength 12: "NULL and kinds 3, 6 to 10; one to three names joined by DOT, the first not STRING; ID, KWID or JOIN_KW, then ( ), ( STAR ) or (
     --    [DISTINCT] expressions ); ( expressions ); ( query ); EXISTS ( query ); CASE [base] WHEN THEN pairs [ELSE] END; CAST ( expression AS name )."
     ∷ operand (NULL ∷ STRING ∷ INTEGER ∷ FLOAT ∷ BLOB ∷ VARIABLE ∷ CTIME-KW ∷ []) (strong 12 row-literal [])  -- literals
     ∷ begins butColumn (ID ∷ KWID ∷ JOIN-KW ∷ []) (strong 12 row-names (nt (any NameRest?) ∷ []))  -- names, or a call

@@ -48,3 +48,7 @@ decided false k e = outside k (not-le k (λ h. subst T e (le→leb k KINDS h)))
 
 pub entries : (k : ℕ) → entryOf strengthTable k ≡ strengthOf k
 entries k = decided (leb k KINDS) k refl
+
+-- so what is looked up in that table is the strength
+pub looked-up : {t : List ℕ} {r : ℕ} (k : ℕ) → t ≡ strengthTable → r ≡ entryOf t k → r ≡ strengthOf k
+looked-up k e h = h ∙ ap (λ z. entryOf z k) e ∙ entries k

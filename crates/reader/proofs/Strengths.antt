@@ -7,7 +7,7 @@ use lib.Dec.{eqb}
 use native.Mathlib.Omega.{arith}
 use Rattle.theory.proofs.Cases.{eqb-eq, eqb-true}
 use Rattle.kinds.specs.Strength.{strengthOf, strengthTable, entryOf}
-use Rattle.kinds.proofs.StrengthTable.{entries}
+use Rattle.kinds.proofs.StrengthTable.{looked-up}
 use Rattle.reader.specs.Bounds.{Lists, strengthsOf, apart, unruled}
 
 head : (b : Bool) (n : ℕ) → cond b n (1 + n) ≡ 0 → (b ≡ true) × (n ≡ 0)
@@ -28,7 +28,7 @@ itself (x ∷ t) = ap (λ b. cond b (apart t t) (1 + apart t t)) (eqb-true x x r
 
 pub by-table : {t : List ℕ} {r : ℕ} (io : Lists) (kind : ℕ) → unruled io ≡ 0 → t ≡ strengthsOf io → r ≡ entryOf t kind → r ≡ strengthOf kind
 unfolding unruled
-by-table io kind e d h = h ∙ ap (λ z. entryOf z kind) (d ∙ nowhere (strengthsOf io) strengthTable e) ∙ entries kind
+by-table io kind e d h = looked-up kind (d ∙ nowhere (strengthsOf io) strengthTable e) h
 
 pub table-rules : {t : List ℕ} → t ≡ strengthTable → apart t strengthTable ≡ 0
 table-rules e = ap (λ z. apart z strengthTable) e ∙ itself strengthTable

@@ -13,22 +13,8 @@ use borrow.Author.Tests.{eq-eqb, eqb-true, ltb-false}
 use denote.Ref.{RefT, now}
 use mir.Val.{boolByte}
 use Rattle.kinds.proofs.StrengthTable.{past}
-use Rattle.reader.specs.Bounds.{Lists, kindsOf, textsOf, strengthsOf, greatestLike, tokens, texts, likes, Seen}
-
-kinds-is : (io : Lists) (d : RefT (List ℕ)) → d .now ≡ [] → kindsOf io ≡ (getD io 0 d) .now
-kinds-is [] d e = sym e
-kinds-is (x ∷ io) d e = refl
-
-texts-is : (io : Lists) (d : RefT (List ℕ)) → d .now ≡ [] → textsOf io ≡ (getD io 1 d) .now
-texts-is [] d e = sym e
-texts-is (x ∷ []) d e = sym e
-texts-is (x ∷ y ∷ io) d e = refl
-
-pub strengths-is : (io : Lists) (d : RefT (List ℕ)) → d .now ≡ [] → (getD io 2 d) .now ≡ strengthsOf io
-strengths-is [] d e = e
-strengths-is (x ∷ []) d e = e
-strengths-is (x ∷ y ∷ []) d e = e
-strengths-is (x ∷ y ∷ z ∷ io) d e = refl
+use Rattle.descent.proofs.Borrowed.{lent-at}
+use Rattle.reader.specs.Bounds.{Lists, kindsOf, textsOf, greatestLike, tokens, texts, likes, Seen}
 
 -- what is read at a place of the kinds
 pub seen : (io : Lists) (d : RefT (List ℕ)) (at v : ℕ) → d .now ≡ [] → v ≡ getD ((getD io 0 d) .now) at 0
@@ -36,8 +22,8 @@ pub seen : (io : Lists) (d : RefT (List ℕ)) (at v : ℕ) → d .now ≡ [] →
 unfolding tokens
 seen io d at v e p q =
     record {
-      is = p ∙ ap (λ (l : List ℕ). getD l at 0) (sym (kinds-is io d e));
-      there = subst⁻¹ (λ (l : List ℕ). v ≤ 4294967295 * (length l - at)) (kinds-is io d e) q;
+      is = p ∙ ap (λ (l : List ℕ). getD l at 0) (lent-at io 0 d e);
+      there = subst (λ (l : List ℕ). v ≤ 4294967295 * (length l - at)) (lent-at io 0 d e) q;
     }
 
 -- .. and past their end
@@ -47,10 +33,10 @@ unseen io d at e h = seen io d at 0 e (sym (past ((getD io 0 d) .now) at h)) zer
 -- a place that has a text
 pub has-text : (io : Lists) (d : RefT (List ℕ)) (at : ℕ) → d .now ≡ [] → at < texts io → at < length ((getD io 1 d) .now)
 unfolding texts
-has-text io d at e h = subst (λ (l : List ℕ). at < length l) (texts-is io d e) h
+has-text io d at e h = subst⁻¹ (λ (l : List ℕ). at < length l) (lent-at io 1 d e) h
 
 pub text-is : (io : Lists) (d : RefT (List ℕ)) (at : ℕ) → d .now ≡ [] → getD ((getD io 1 d) .now) at 0 ≡ getD (textsOf io) at 0
-text-is io d at e = ap (λ (l : List ℕ). getD l at 0) (sym (texts-is io d e))
+text-is io d at e = ap (λ (l : List ℕ). getD l at 0) (lent-at io 1 d e)
 
 -- ---- the text numbers of LIKE_KW
 like-here : (b : Bool) (t g : ℕ) → b ≡ true → t ≤ cond b (max t g) g

@@ -7,6 +7,7 @@ use lib.ListN.{length, getD}
 use lib.Dec.{eqb}
 use mathlib.Core.Bool.{cond}
 use denote.Ref.{RefT, now}
+use Rattle.grammar.specs.Sizes.{TOKENS}
 use Rattle.kinds.specs.Strength.{strengthTable}
 use Rattle.reader.specs.declared.Cursor.{Cursor}
 use Rattle.reader.specs.declared.Step.{Step}
@@ -67,7 +68,7 @@ pub record Asks (levels ask : ℕ) : Type 0 where
 -- what a reader needs of its caller at a place, with so many records made: the lists are of one length and not long, and there is
 -- room for the records that the reader may make of absent parts, with no token read
 pub record Ready (slack : ℕ) (io : Lists) (at made : ℕ) : Type 0 where
-  pub short : tokens io ≤ 4096
+  pub short : tokens io ≤ TOKENS
   pub paired : texts io ≡ tokens io
   pub liked : likes io ≤ 3
   pub ruled : unruled io ≡ 0

@@ -17,6 +17,7 @@ ghost use Rattle.reader.specs.Turning.{swappedAt, Turned};
 ghost use Rattle.reader.specs.Bounds.{tokens, kindsOf, textsOf, greatestLike, queriesOf, strengthAsked, Asks, Ready, Seen, Within, Refuses, OneOn, Opens, NullBefore, gotOf, refusalOf, unruled};
 ghost use Rattle.reader.specs.Answers.{number, place, Few, Plain};
 ghost use Rattle.grammar.specs.Promise.{Lent, Reads};
+ghost use Rattle.grammar.specs.Sizes.{WIDTH};
 ghost use Rattle.kinds.specs.Strength.{strengthOf, strengthTable};
 use kinds::ALL;
 use kinds::AND;
@@ -94,6 +95,15 @@ pub enum Answer {
     Refused(u32, usize),
 }
 
+// 01's limits, and how many numbers a record has.
+const TOKENS: usize = 4096;
+
+const LEVELS: u32 = 64;
+
+const QUERIES: u32 = 16;
+
+pub const WIDTH: usize = 4;
+
 // Passed down as one number: the level of an expression that begins here, the queries open, the strength asked.
 const LEVEL: u32 = 512;
 
@@ -101,9 +111,7 @@ const QUERY: u32 = 16;
 
 const OUTER: u32 = LEVEL;
 
-const TOO_DEEP: u32 = 65 * LEVEL;
-
-const QUERIES: u32 = 16;
+const TOO_DEEP: u32 = (LEVELS + 1) * LEVEL;
 
 // What a column asks: an expression, or name DOT STAR besides.
 const COLUMN: u32 = 0;
@@ -208,8 +216,8 @@ fn store(nodes: &mut [u32], made: u32, code: u32, detail: u32, children: u32, si
     requires { ⌜ made < 65536 ⌝ }
     ensures { λ r. ⌜ (r ≡ made + 1) × Filled (now (nodes .entry)) (now (nodes .exit)) made r (one code detail children size) ⌝ }
 {
-    let base = made as usize * 4;
-    if base + 4 <= nodes.len() {
+    let base = made as usize * WIDTH;
+    if base + WIDTH <= nodes.len() {
         nodes[base] = code;
         nodes[base + 1] = detail;
         nodes[base + 2] = children;
@@ -236,8 +244,8 @@ fn missing(nodes: &mut [u32], made: u32, n: u32) -> u32
     let end = made + n;
     let mut i = made;
     while i < end {
-        let base = i as usize * 4;
-        if base + 4 > nodes.len() {
+        let base = i as usize * WIDTH;
+        if base + WIDTH > nodes.len() {
             break;
         }
         nodes[base] = 0;
@@ -1523,7 +1531,7 @@ fn rotate(nodes: &mut [u32], base: u32, mid: u32, end: u32)
     requires { ⌜ (base ≤ mid) × (mid ≤ end) × (end < 65536) ⌝ }
     ensures { λ r. ⌜ ((N : List ℕ) (rs qs : List Rec) → mid ≡ base + length rs → Filled N (now (nodes .entry)) base end (rs ++ qs) → Filled N (now (nodes .exit)) base end (qs ++ rs)) ⌝ }
 {
-    if end as usize * 4 <= nodes.len() {
+    if end as usize * WIDTH <= nodes.len() {
         reverse(nodes, base, mid);
         reverse(nodes, mid, end);
         reverse(nodes, base, end);
@@ -1532,18 +1540,18 @@ fn rotate(nodes: &mut [u32], base: u32, mid: u32, end: u32)
 
 // The records from `from` up to `to`, last first.
 fn reverse(nodes: &mut [u32], from: u32, to: u32)
-    requires { ⌜ (from < 65536) × (to < 65536) × (to * 4 ≤ length (now nodes)) ⌝ }
-    ensures { λ r. ⌜ ((E : List ℕ) → Turned (now (nodes .entry)) (from * 4) (to * 4) E → now (nodes .exit) ≡ E) ⌝ }
+    requires { ⌜ (from < 65536) × (to < 65536) × (to * WIDTH ≤ length (now nodes)) ⌝ }
+    ensures { λ r. ⌜ ((E : List ℕ) → Turned (now (nodes .entry)) (from * WIDTH) (to * WIDTH) E → now (nodes .exit) ≡ E) ⌝ }
 {
-    let mut a = from as usize * 4;
-    let mut b = to as usize * 4;
-    while a + 4 < b {
-        b -= 4;
+    let mut a = from as usize * WIDTH;
+    let mut b = to as usize * WIDTH;
+    while a + WIDTH < b {
+        b -= WIDTH;
         swap(nodes, a, b);
         swap(nodes, a + 1, b + 1);
         swap(nodes, a + 2, b + 2);
         swap(nodes, a + 3, b + 3);
-        a += 4;
+        a += WIDTH;
     }
 }
 
@@ -1632,7 +1640,7 @@ fn start<'a>(kinds: &'a [u32], texts: &'a [u32], table: &'a [u32], nodes: &mut [
         Step::Refused(n, p) => Answer::Refused(n as u32, p as usize),
         Step::Got(_, _, c) => {
             let need = c.made as usize;
-            if need * 4 > nodes.len() {
+            if need * WIDTH > nodes.len() {
                 return Answer::Refused(9, need);
             }
             command(&io, nodes);
@@ -1648,7 +1656,7 @@ pub fn read<'a>(kinds: &'a [u32], texts: &'a [u32], nodes: &mut [u32]) -> Answer
     if kinds.len() != texts.len() {
         return Answer::Refused(1, 0);
     }
-    if kinds.len() > 4096 {
+    if kinds.len() > TOKENS {
         return Answer::Refused(1, 0);
     }
     if !all_fit(kinds, texts) {

@@ -8,7 +8,7 @@ use lib.Dec.{eqb}
 use Rattle.theory.specs.Trees.{Tok}
 use Rattle.theory.specs.Table.{pick}
 use Rattle.kinds.specs.Kinds.{AS, BY, COMMA, DESC, DISTINCT, DOT, FIRST, HAVING, INDEXED, LAST, LIMIT, LP, NOT, NULLS, OFFSET, SELECT, STAR, USING, WHERE}
-use Rattle.grammar.specs.NodeNames.{node-query, node-select, node-call, node-case, node-parens, node-column, node-sort, node-names, node-absent, node-table}
+use Rattle.grammar.specs.NodeNames.{node-query, node-select, node-call, node-case, node-parens, node-column, node-sort, node-names, node-absent, node-table, node-binary, node-null-test, node-in-list, node-in-query, node-between, node-collate}
 use Rattle.grammar.specs.Nodes.{Nodes, count}
 use Rattle.grammar.specs.Reading.{choose}
 use Rattle.grammar.specs.Writing.{Piece, at, after, within, parted, grouped, joinOf, tok}
@@ -53,7 +53,7 @@ pub record Term (N : List ℕ) (i : ℕ) : Type 0 where
 
 -- codes whose first child stands first
 unfoldable pub leadsOf : ℕ → Bool
-leadsOf c = pick (eqb c node-column) true (λ w. pick (eqb c node-sort) true (λ w. pick (eqb c 39) true (λ w. pick (eqb c 40) true (λ w. pick (eqb c 41) true (λ w. pick (eqb c 42) true (λ w. pick (eqb c 43) true (λ w. eqb c 44)))))))
+leadsOf c = pick (eqb c node-column) true (λ w. pick (eqb c node-sort) true (λ w. pick (eqb c node-binary) true (λ w. pick (eqb c node-null-test) true (λ w. pick (eqb c node-in-list) true (λ w. pick (eqb c node-in-query) true (λ w. pick (eqb c node-between) true (λ w. eqb c node-collate)))))))
 
 -- a term that doesn't begin with another, and no one-member parentheses
 pub record Operand (N : List ℕ) (i : ℕ) : Type 0 where

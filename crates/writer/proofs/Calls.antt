@@ -16,14 +16,14 @@ use Rattle.scribe.proofs.Parts.{codedToks, Spells}
 use Rattle.scribe.proofs.Length.{toks-few}
 use Rattle.scribe.proofs.Command.{read-short, writes-whole, writes-short}
 use Rattle.reader.specs.Answers.{Few}
-use Rattle.writer.specs.Pages.{Walks}
+use Rattle.writer.specs.Pages.{Walks, MOST}
 use Rattle.writer.proofs.Moves.{coded}
 
 -- the records of a command are few
-pub few-records : {K T N : List ℕ} {p : ℕ} {N' : List ℕ} → Reads K T N 0 p N' → Few K p → p ≤ 32776
+pub few-records : {K T N : List ℕ} {p : ℕ} {N' : List ℕ} → Reads K T N 0 p N' → Few K p → p ≤ MOST
 few-records r f = let s = read-short r in omega (arith, f, s)
 
-module _ {N : List ℕ} {p : ℕ} (few : p ≤ 32776) where
+module _ {N : List ℕ} {p : ℕ} (few : p ≤ MOST) where
   -- the walk that counts begins at 1048576
   pub counted : {lane : ℕ} {A A' : List ℕ} {r : ℕ} → Spells (codedToks node-query) N lane A A' r 1048576 p → (w : Whole aQuery N p) → r + length (pieceAt w .toks) ≡ 1048576
   counted s w = let f = toks-few w in s .told (coded w (query-is w)) .puts (omega (arith, f, few)) .counted
@@ -40,11 +40,6 @@ module _ {N : List ℕ} {p : ℕ} (few : p ≤ 32776) where
       where
         kindly : {l : ℕ} {ts : List Tok} → l ≡ 0 → Puts l A A' x c ts → Puts 0 A A' x c ts
         kindly {ts = ts} e s = subst (λ n. Puts n A A' x c ts) e s
-
--- a list that was lent empty is left empty
-pub none-left : (l : List ℕ) → length l ≡ 0 → l ≡ []
-none-left [] e = refl
-none-left (x ∷ l) e = absurd (omega (arith, e))
 
 -- what was written in a list, told of the same list
 pub spells-in : {N : List ℕ} {lane : ℕ} {A A₁ A' : List ℕ} {r to i : ℕ} → A₁ ≡ A → Spells (codedToks node-query) N lane A₁ A' r to i → Spells (codedToks node-query) N lane A A' r to i

@@ -4,12 +4,11 @@ use mathlib.Core.Logic.{_⊎_, inl, inr}
 use mathlib.Core.Path.{_≡_, refl, sym, ap, ap₂, _∙_}
 use Prim.Native.Nat.{ℕ, zero, suc, _+_, _-_, _*_, _<_, _≤_}
 use lib.ListN.{length, getD, set}
-use denote.Ref.{RefT, now}
+use denote.Ref.{now}
 use native.Mathlib.Omega.{arith}
 use borrow.Author.Tests.{ne-eqb}
 use Rattle.theory.proofs.Cases.{eqb-true}
-use Rattle.kinds.specs.Strength.{strengthOf, entryOf}
-use Rattle.kinds.proofs.StrengthTable.{past, entries}
+use Rattle.kinds.proofs.StrengthTable.{past}
 use Rattle.grammar.specs.Sizes.{WIDTH}
 use Rattle.grammar.specs.Reading.{choose}
 use Rattle.grammar.specs.Nodes.{count}
@@ -21,13 +20,7 @@ use Rattle.scribe.proofs.Whole.{Whole, beforeOf}
 use Rattle.scribe.proofs.Kids.{known}
 use Rattle.scribe.proofs.Clauses.{codeAt, childrenAt}
 use Rattle.scribe.proofs.Leading.{backs}
-use Rattle.writer.specs.Pages.{Lists, nodesOf, strengthsOf, Ruled, Field}
-
--- a list of those lent, at a place
-pub list-is : (io : Lists) (k : ℕ) (d : RefT (List ℕ)) → d .now ≡ [] → (getD io k d) .now ≡ getD (map now io) k []
-list-is [] k d e = e
-list-is (x ∷ io) zero d e = refl
-list-is (x ∷ io) (suc k) d e = list-is io k d e
+use Rattle.writer.specs.Pages.{Lists, nodesOf, Field}
 
 -- ── a number of a record ──
 pub field-past : {io : Lists} {i f : ℕ} (t : List ℕ) → t ≡ nodesOf io → length t ≤ (i - 1) * 4 + f → Field f io i 0
@@ -112,7 +105,3 @@ put-one {lane} {A} {A'} {to} kind text number n k = one-put (toktext kind text) 
     which : ((lane ≡ 0) × (number ≡ kind)) ⊎ ((lane ≡ 0 → ⊥) × (number ≡ text)) → number ≡ laneOf lane (toktext kind text)
     which (inl x) = x .1 ∙ sym (ap (λ z. choose z kind text) (eqb-true lane 0 (x .0)))
     which (inr x) = x .1 ∙ sym (ap (λ z. choose z kind text) (ne-eqb lane 0 (x .0)))
-
--- ── strengths, by the table lent ──
-pub by-table : {t : List ℕ} {r : ℕ} (io : Lists) (kind : ℕ) → Ruled io → t ≡ strengthsOf io → r ≡ entryOf t kind → r ≡ strengthOf kind
-by-table io kind e d h = h ∙ ap (λ z. entryOf z kind) (d ∙ e) ∙ entries kind

@@ -25,7 +25,7 @@ use Rattle.scribe.proofs.Leading.{binary-led, between-led, in-list-led, in-quer
 use Rattle.scribe.proofs.Parts.{Coded, Term, isTerm, Operand, Leaf, Row, Terms, Inside, a-query, members, Perhaps, not-any, some-terms, Part, codedToks, termToks, operandToks, mayToks, bareToks, termsToks, innerToks, insideToks, perhapsToks, whensToks, callToks, argsToks, partToks, constraintToks, joinToks, sourceOf, usingToks, Spells, Tailed}
 use Rattle.writer.specs.Pages.{Lists, nodesOf, laneIn, Field, Trails, Bounds}
 use Rattle.writer.proofs.Leaves.{code-at, code-of, detail-of, children-at}
-use Rattle.writer.proofs.Said.{spell-at, expr-term, leads-within}
+use Rattle.writer.proofs.Said.{spell-at, expr-term, leads-within, by-term}
 
 -- ── a node by its code ──
 abbrev pub coded : {C : Class} {N : List ℕ} {i k : ℕ} (w : Whole C N i) → w .code ≡ k → Coded k N i
@@ -353,27 +353,17 @@ module _ {N : List ℕ} {i c : ℕ} (t : Operand N i) (e : c ≡ codeAt N i) (lo
       (λ q. let k = subquery-kids (t .it .whole) (code-sub q) in (k .first, subquery-spelt (t .it .whole) (code-sub q) k .toks ∙ ap (λ b. choose b (tok EXISTS ∷ []) [] ++ insideToks N (i - 1) (in-query (k .first))) (sym q)))
 
 -- what is left is a prefix
-class-prefix : {N : List ℕ} {i : ℕ} (C : Class) → isTerm C ≡ true → (w : Whole C N i) → 38 ≤ w .code → w .code ≤ 44
-class-prefix anExpr p w h = expr-range w .1
-class-prefix aColumn p w h = let r = column-range w .1 in omega (arith, r)
-class-prefix aSort p w h = let r = sort-is w in omega (arith, r)
-class-prefix aQuery p w h = 0≢1 p
-class-prefix aBody p w h = 0≢1 p
-class-prefix aFrom p w h = 0≢1 p
-class-prefix aSource p w h = 0≢1 p
-class-prefix aJoin p w h = 0≢1 p
-class-prefix aConstraint p w h = 0≢1 p
-class-prefix aName p w h = 0≢1 p
-class-prefix absence p w h = 0≢1 p
-class-prefix (listOf D) p w h = 0≢1 p
-class-prefix (anyOf D) p w h = 0≢1 p
-class-prefix emptyList p w h = 0≢1 p
+no-later : {N : List ℕ} {i : ℕ} (C : Class) → isTerm C ≡ true → (w : Whole C N i) → w .code ≤ 44
+no-later {N} {i} = by-term (λ C. (w : Whole C N i) → w .code ≤ 44)
+    (λ w. expr-range w .1)
+    (λ w. let r = column-range w .1 in omega (arith, r))
+    (λ w. let r = sort-is w in omega (arith, r))
 
 pub operand-prefix : {N : List ℕ} {i c : ℕ} (t : Operand N i) → c ≡ codeAt N i → 38 ≤ c → t .it .whole .code ≡ node-prefix
 operand-prefix {c = c} t e h =
     let k = known (t .it .whole) .code in
     let q : c ≡ t .it .whole .code = e ∙ k in
-    let hi = class-prefix (t .it .class) (t .it .term) (t .it .whole) (omega (arith, h, q)) in
+    let hi = no-later (t .it .class) (t .it .term) (t .it .whole) in
     by-bool (eqb (t .it .whole .code) node-prefix) (λ z. eqb-eq (t .it .whole .code) node-prefix z)
     (λ z. let n : t .it .whole .code ≡ node-prefix → ⊥ = λ y. absurd (0≢1 (sym z ∙ eqb-true (t .it .whole .code) node-prefix y)) in
     absurd (0≢1 (sym (leads-within (t .it .whole .code) (omega (arith, h, q, n)) (omega (arith, hi)) ∙ t .first))))

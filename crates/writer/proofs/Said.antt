@@ -116,6 +116,23 @@ leads-last {c} l a b d e f g h = eqb-eq c 44 (sym (rw (ne-eqb c 7 a, ne-eqb c 14
 not-led : {c k : ℕ} → leadsOf c ≡ false → true ≡ leadsOf k → c ≡ k → ⊥
 not-led l t e = absurd (0≢1 (sym (t ∙ ap leadsOf (sym e) ∙ l)))
 
+-- a class of terms is one of three
+pub by-term : (Q : Class → Type 0) → Q anExpr → Q aColumn → Q aSort → (C : Class) → isTerm C ≡ true → Q C
+by-term Q e c s anExpr p = e
+by-term Q e c s aColumn p = c
+by-term Q e c s aSort p = s
+by-term Q e c s aQuery p = absurd (0≢1 p)
+by-term Q e c s aBody p = absurd (0≢1 p)
+by-term Q e c s aFrom p = absurd (0≢1 p)
+by-term Q e c s aSource p = absurd (0≢1 p)
+by-term Q e c s aJoin p = absurd (0≢1 p)
+by-term Q e c s aConstraint p = absurd (0≢1 p)
+by-term Q e c s aName p = absurd (0≢1 p)
+by-term Q e c s absence p = absurd (0≢1 p)
+by-term Q e c s (listOf D) p = absurd (0≢1 p)
+by-term Q e c s (anyOf D) p = absurd (0≢1 p)
+by-term Q e c s emptyList p = absurd (0≢1 p)
+
 -- ── a literal, STAR, name DOT STAR ──
 module _ {N : List ℕ} {i : ℕ} where
   pub leaf-null : (t : Leaf N i) → codeAt N i ≡ node-null → leafToks N i t ≡ tok NULL ∷ []
@@ -131,20 +148,10 @@ module _ {N : List ℕ} {i : ℕ} where
   leaf-name-star t e = let q = sym (known (t .it .whole) .code) ∙ e in name-star-spelt (t .it .whole) q (name-star-kids (t .it .whole) q) .toks
 
   literal-range : (C : Class) → isTerm C ≡ true → (w : Whole C N i) → w .code < node-names → leadsOf (w .code) ≡ false → (w .code ≡ node-star → ⊥) → (w .code ≡ node-name-star → ⊥) → 24 ≤ w .code
-  literal-range anExpr p w h l a b = expr-range w .0
-  literal-range aColumn p w h l a b = absurd (let r = column-range w in let q : w .code ≡ 7 = omega (arith, r, a, b) in not-led l (leads-at 7 (inl refl)) q)
-  literal-range aSort p w h l a b = absurd (not-led l (leads-at 14 (inr refl)) (sort-is w))
-  literal-range aQuery p w h l a b = 0≢1 p
-  literal-range aBody p w h l a b = 0≢1 p
-  literal-range aFrom p w h l a b = 0≢1 p
-  literal-range aSource p w h l a b = 0≢1 p
-  literal-range aJoin p w h l a b = 0≢1 p
-  literal-range aConstraint p w h l a b = 0≢1 p
-  literal-range aName p w h l a b = 0≢1 p
-  literal-range absence p w h l a b = 0≢1 p
-  literal-range (listOf D) p w h l a b = 0≢1 p
-  literal-range (anyOf D) p w h l a b = 0≢1 p
-  literal-range emptyList p w h l a b = 0≢1 p
+  literal-range = by-term (λ C. (w : Whole C N i) → w .code < node-names → leadsOf (w .code) ≡ false → (w .code ≡ node-star → ⊥) → (w .code ≡ node-name-star → ⊥) → 24 ≤ w .code)
+      (λ w h l a b. expr-range w .0)
+      (λ w h l a b. absurd (let r = column-range w in let q : w .code ≡ 7 = omega (arith, r, a, b) in not-led l (leads-at 7 (inl refl)) q))
+      (λ w h l a b. absurd (not-led l (leads-at 14 (inr refl)) (sort-is w)))
 
   pub leaf-literal : (t : Leaf N i) {c d k : ℕ} → c ≡ codeAt N i → d ≡ t .it .whole .detail → k ≡ literalKind c → (c ≡ node-null → ⊥) → (c ≡ node-star → ⊥) → (c ≡ node-name-star → ⊥) → leafToks N i t ≡ toktext k d ∷ []
   leaf-literal t {c} e h g a b n =

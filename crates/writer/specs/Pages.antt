@@ -7,7 +7,7 @@ use lib.ListN.{length, getD}
 use denote.Ref.{RefT, now}
 use Rattle.theory.specs.Trees.{Tok}
 use Rattle.kinds.specs.Strength.{strengthTable}
-use Rattle.grammar.specs.Sizes.{WIDTH}
+use Rattle.grammar.specs.Sizes.{TOKENS, WIDTH}
 use Rattle.grammar.specs.NodeNames.{node-parens, node-binary, node-in-list, node-in-query, node-between}
 use Rattle.grammar.specs.Nodes.{count}
 use Rattle.grammar.specs.Writing.{nodeStr}
@@ -74,6 +74,10 @@ pub record Closes (c : ℕ) (io : Lists) (A A' : List ℕ) (r to i : ℕ) : Type
 -- .. of BETWEEN
 pub record Bounds (io : Lists) (A A' : List ℕ) (r to i : ℕ) : Type 0 where
   pub told : (w : Coded node-between (nodesOf io) i) → Tailed (w .whole) (laneIn io) A A' r to
+
+-- no reading has more records: 8 for each token and the end (`Few` of the reader)
+abbrev pub MOST : ℕ
+MOST = 8 * (TOKENS + 1)
 
 -- of a table that holds a command's reading, p records: what a call has yet to do
 abbrev pub Walks : List ℕ → ℕ → List ℕ → List ℕ → ℕ → ℕ → List ℕ → List ℕ → Type 0

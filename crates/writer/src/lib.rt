@@ -9,6 +9,7 @@ ghost use mathlib.Core.Path.{_≡_};
 ghost use mathlib.Core.List.{[], _∷_, _++_};
 ghost use Prim.Native.Nat.{_+_, _-_, _%_, _/_, _<_, _≤_};
 ghost use lib.ListN.{length};
+ghost use Rattle.grammar.specs.Sizes.{WIDTH};
 ghost use Rattle.grammar.specs.NodeNames.{node-query, node-select, node-values, node-table, node-call, node-case, node-cast, node-prefix, node-between};
 ghost use Rattle.grammar.specs.Reading.{choose};
 ghost use Rattle.grammar.specs.Writing.{tok, toktext, nodeStr, binaryStr, binaryToks, notIf, joinOf, joinWords};
@@ -23,7 +24,7 @@ ghost use Rattle.scribe.proofs.Clauses.{codeAt};
 ghost use Rattle.scribe.proofs.Leading.{backs};
 ghost use Rattle.scribe.proofs.Parts.{Spells, Coded, Term, Operand, Terms, Inside, Perhaps, Part, leadsOf, nodeToks, codedToks, termToks, operandToks, mayToks, bareToks, rowToks, termsToks, insideToks, innerToks, perhapsToks, limitToks, groupToks, tailToks, whensToks, argsToks, partToks, constraintToks, joinToks, leafToks, opens, aliasToks, schemaToks, titledToks, indexToks, usingToks, selectedToks, nullsToks, wayToks};
 ghost use Rattle.reader.specs.Answers.{number, place, Plain};
-ghost use Rattle.writer.specs.Pages.{nodesOf, Ruled, Field, First, Bared, Taken, Wrote, Writ, Trails, Closes, Bounds, Walks};
+ghost use Rattle.writer.specs.Pages.{nodesOf, Ruled, Field, First, Bared, Taken, Wrote, Writ, Trails, Closes, Bounds, MOST, Walks};
 use kinds::AND;
 use kinds::AS;
 use kinds::BETWEEN;
@@ -73,6 +74,7 @@ use kinds::VARIABLE;
 use kinds::WHEN;
 use kinds::WHERE;
 use reader::Answer;
+use reader::WIDTH;
 
 // Where the walk that counts begins: above every place that a writing reaches.
 const HIGH: u32 = 1 << 20;
@@ -93,14 +95,14 @@ const WHOLE: u32 = 12;
 
 // A number of the record of the node that ends at i; 0 where there is none.
 fn field(io: &[&[u32]; 3], i: u32, f: usize) -> u32
-    requires { ⌜ f < 4 ⌝ }
+    requires { ⌜ f < WIDTH ⌝ }
     ensures { λ r. ⌜ Field f (now (io .entry)) i r ⌝ }
 {
     if i == 0 {
         return 0;
     }
     let nodes = io[0];
-    let at = (i - 1) as usize * 4 + f;
+    let at = (i - 1) as usize * WIDTH + f;
     if at >= nodes.len() {
         return 0;
     }
@@ -903,7 +905,7 @@ fn walks<'a>(
     out_kinds: &mut [u32],
     out_texts: &mut [u32],
 ) -> Answer
-    requires { ⌜ (now table ≡ strengthTable) × Whole aQuery (now nodes) records × (records ≤ 32776) × (length (now «out_kinds») ≡ length (now «out_texts»)) ⌝ }
+    requires { ⌜ (now table ≡ strengthTable) × Whole aQuery (now nodes) records × (records ≤ MOST) × (length (now «out_kinds») ≡ length (now «out_texts»)) ⌝ }
     ensures { λ r. ⌜ Walks (now (nodes .entry)) records (now («out_kinds» .entry)) (now («out_texts» .entry)) (number r) (place r) (now («out_kinds» .exit)) (now («out_texts» .exit)) × Plain r ⌝ }
 {
     let count = HIGH

@@ -21,39 +21,39 @@ Inv-loop kinds texts n bad₀ i₀ bad i = (i ≤ n) × (n ≡ length kinds) × 
 abbrev μ-loop : tie.MeasureT-loop
 μ-loop kinds texts n bad₀ i₀ bad i = n - i
 
--- src/lib.rt:1519:5
+-- src/lib.rt:1527:5
 loop-holds : tie.Need-loop-holds Inv-loop μ-loop
 loop-holds c = (omega arith, omega arith, λ z j l. absurd (omega arith), λ z j l. absurd (omega arith), λ a. refl)
 
--- src/lib.rt:1520:25
+-- src/lib.rt:1528:25
 mul-odd : tie.Need-mul-odd Inv-loop μ-loop
 mul-odd c = omega arith
 
--- src/lib.rt:1520:25
+-- src/lib.rt:1528:25
 shared-slice-read-odd : tie.Need-shared-slice-read-odd Inv-loop μ-loop
 shared-slice-read-odd c = omega arith
 
--- src/lib.rt:1520:35
+-- src/lib.rt:1528:35
 mul-odd-2 : tie.Need-mul-odd-2 Inv-loop μ-loop
 mul-odd-2 c = omega arith
 
--- src/lib.rt:1520:35
+-- src/lib.rt:1528:35
 shared-slice-read-odd-2 : tie.Need-shared-slice-read-odd-2 Inv-loop μ-loop
 shared-slice-read-odd-2 c = omega arith
 
--- src/lib.rt:1520:21
+-- src/lib.rt:1528:21
 odd-requires : tie.Need-odd-requires Inv-loop μ-loop
 odd-requires c κs = search needs
 
--- src/lib.rt:1521:9
+-- src/lib.rt:1529:9
 add-i : tie.Need-add-i Inv-loop μ-loop
 add-i c = omega arith
 
--- src/lib.rt:1519:5
+-- src/lib.rt:1527:5
 loop-less : tie.Need-loop-less Inv-loop μ-loop
 loop-less c = omega arith
 
--- src/lib.rt:1519:5
+-- src/lib.rt:1527:5
 loop-again : tie.Need-loop-again Inv-loop μ-loop
 loop-again c = (
   omega arith,
@@ -63,7 +63,7 @@ loop-again c = (
   λ a. none-or (c .before .before .before .before .loop .bad) (c .odd .result) (c .before .before .before .before .loop .inv .4 a) (c .odd .ensures .1 (fit-at (c .before .before .before .before .before .before .before .args .kinds .now) (c .before .before .before .before .before .before .before .args .texts .now) (c .before .before .before .before .loop .i) (omega arith) a (omega arith))),
 )
 
--- src/lib.rt:1512:1
+-- src/lib.rt:1520:1
 returns : tie.Need-returns Inv-loop μ-loop
 returns c = (
   λ e. likes-few (c .before .before .before .before .args .kinds .now) (c .before .before .before .before .args .texts .now) (λ i l. c .before .loop .inv .2 (eqb-true _ _ e) i (omega (arith, c .before .loop .inv .0, c .before .loop .inv .1, l))),

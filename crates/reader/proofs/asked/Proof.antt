@@ -6,7 +6,7 @@ use Rattle.reader.proofs.asked.Tie as tie
 use Rattle.reader.proofs.asked.Reads as reads
 use Rattle.reader.proofs.asked.Lts as lts
 
--- src/lib.rt:106:1
+-- src/lib.rt:107:1
 returns : tie.Need-returns
 unfolding strengthAsked
 returns c = refl

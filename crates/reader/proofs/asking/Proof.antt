@@ -8,15 +8,15 @@ use Rattle.reader.proofs.asking.Tie as tie
 use Rattle.reader.proofs.asking.Reads as reads
 use Rattle.reader.proofs.asking.Lts as lts
 
--- src/lib.rt:107:5
+-- src/lib.rt:115:5
 mul-result : tie.Need-mul-result
 mul-result c = search needs
 
--- src/lib.rt:107:5
+-- src/lib.rt:115:5
 add-result : tie.Need-add-result
 add-result c = search needs
 
--- src/lib.rt:103:1
+-- src/lib.rt:104:1
 returns : tie.Need-returns
 unfolding queriesOf strengthAsked
 returns c = (omega arith, omega arith, omega arith, record { packs = λ a s₀ p. repacked p (c .pre .1) })

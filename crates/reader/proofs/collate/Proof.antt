@@ -13,48 +13,48 @@ use Rattle.reader.proofs.emit.Reads as emit-reads
 use Rattle.reader.proofs.got.Reads as got-reads
 use Rattle.reader.proofs.name.Reads as name-reads
 
--- src/lib.rt:462:9
+-- src/lib.rt:470:9
 name-requires : tie.Need-name-requires
 name-requires c κs = search needs
 
--- src/lib.rt:463:25
+-- src/lib.rt:471:25
 enum-known-r : tie.Need-enum-known-r
 enum-known-r c = c .match .keys1
 
--- src/lib.rt:464:9
+-- src/lib.rt:472:9
 enum-told : tie.Need-enum-told
 enum-told c = c .match .keys2
 
--- src/lib.rt:464:9
+-- src/lib.rt:472:9
 same-length : tie.Need-same-length
 same-length c = search needs
 
--- src/lib.rt:464:9
+-- src/lib.rt:472:9
 returns : tie.Need-returns
 unfolding collateW
 returns c = (passed-on (c .before .before .before .before .name .ensures .0) (c .enum-told .given .1), λ pre b. halts _ _ (c .before .before .before .before .name .ensures .2) (c .enum-told .given .1))
 
--- src/lib.rt:466:43
+-- src/lib.rt:474:43
 sub-emit : tie.Need-sub-emit
 sub-emit c = omega (arith, got-in (c .before .before .before .before .before .before .before .name .ensures .0) (c .before .before .before .r .given .1), one-on (c .before .before .before .before .before .before .before .name .ensures .1) (c .before .before .before .r .given .1), c .before .before .before .before .before .before .before .before .before .before .pre)
 
--- src/lib.rt:466:43
+-- src/lib.rt:474:43
 add-emit : tie.Need-add-emit
 add-emit c = omega (arith, got-in (c .before .before .before .before .before .before .before .name .ensures .0) (c .before .before .before .r .given .1), one-on (c .before .before .before .before .before .before .before .name .ensures .1) (c .before .before .before .r .given .1), c .before .before .before .before .before .before .before .before .before .before .pre)
 
--- src/lib.rt:466:9
+-- src/lib.rt:474:9
 emit-requires : tie.Need-emit-requires
 emit-requires c κs = omega (arith, got-in (c .before .before .before .before .before .before .before .name .ensures .0) (c .before .before .before .r .given .1), one-on (c .before .before .before .before .before .before .before .name .ensures .1) (c .before .before .before .r .given .1), c .before .before .before .before .before .before .before .before .before .before .pre)
 
--- src/lib.rt:467:5
+-- src/lib.rt:475:5
 got-requires : tie.Need-got-requires
 got-requires c κs = search needs
 
--- src/lib.rt:458:1
+-- src/lib.rt:466:1
 same-length-2 : tie.Need-same-length-2
 same-length-2 c = search needs
 
--- src/lib.rt:458:1
+-- src/lib.rt:466:1
 returns-2 : tie.Need-returns-2
 unfolding collateW
 returns-2 c = (ended (c .got .ensures) (omega (arith, got-in (c .before .before .before .before .before .before .before .before .before .before .before .name .ensures .0) (c .before .before .before .before .before .before .before .r .given .1), one-on (c .before .before .before .before .before .before .before .before .before .before .before .name .ensures .1) (c .before .before .before .before .before .before .before .r .given .1), c .before .before .before .before .before .before .before .before .before .before .before .before .before .before .pre, c .before .before .before .emit .ensures .0)), λ pre b. goes _ _ (c .before .before .before .before .before .before .before .before .before .before .before .name .ensures .2) (c .before .before .before .before .before .before .before .r .given .1) (λ rs F. laid (c .got .ensures) refl (capped _ pre b F (c .before .before .before .emit .ensures .1))))

@@ -9,15 +9,15 @@ use Rattle.reader.proofs.deeper.Reads as reads
 use Rattle.reader.proofs.deeper.Lts as lts
 use Rattle.reader.proofs.asking.Reads as asking-reads
 
--- src/lib.rt:114:5
+-- src/lib.rt:122:5
 asking-requires : tie.Need-asking-requires
 asking-requires c κs = search needs
 
--- src/lib.rt:114:5
+-- src/lib.rt:122:5
 add-result : tie.Need-add-result
 add-result c = search needs
 
--- src/lib.rt:110:1
+-- src/lib.rt:118:1
 returns : tie.Need-returns
 unfolding queriesOf
 returns c = (omega arith, record { packs = λ a s₀ p. one-deeper (c .asking .ensures .3 .packs a s₀ p) })

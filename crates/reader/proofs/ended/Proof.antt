@@ -14,44 +14,44 @@ use Rattle.reader.proofs.got.Reads as got-reads
 use Rattle.reader.proofs.peek.Reads as peek-reads
 use Rattle.reader.proofs.wrong.Reads as wrong-reads
 
--- src/lib.rt:560:9
+-- src/lib.rt:568:9
 peek-requires : tie.Need-peek-requires
 peek-requires c κs = search needs
 
--- src/lib.rt:562:9
+-- src/lib.rt:570:9
 wrong-requires : tie.Need-wrong-requires
 wrong-requires c κs = search needs
 
--- src/lib.rt:562:9
+-- src/lib.rt:570:9
 returns : tie.Need-returns
 unfolding endedW
 returns c = (refused (c .wrong .ensures .0) (omega arith), λ pre m N rs b F. left _ _ _ (isn't (c .before .before .peek .ensures) (c .before .if1 .taken)) (misfit (c .before .before .peek .ensures) (c .wrong .ensures .1)))
 
--- src/lib.rt:564:45
+-- src/lib.rt:572:45
 sub-emit : tie.Need-sub-emit
 sub-emit c = search needs
 
--- src/lib.rt:564:45
+-- src/lib.rt:572:45
 add-emit : tie.Need-add-emit
 add-emit c = search needs
 
--- src/lib.rt:564:9
+-- src/lib.rt:572:9
 emit-requires : tie.Need-emit-requires
 emit-requires c κs = search needs
 
--- src/lib.rt:565:9
+-- src/lib.rt:573:9
 add-got : tie.Need-add-got
 add-got c = search needs
 
--- src/lib.rt:565:5
+-- src/lib.rt:573:5
 got-requires : tie.Need-got-requires
 got-requires c κs = search needs
 
--- src/lib.rt:548:1
+-- src/lib.rt:556:1
 same-length : tie.Need-same-length
 same-length c = search needs
 
--- src/lib.rt:548:1
+-- src/lib.rt:556:1
 returns-2 : tie.Need-returns-2
 unfolding endedW
 returns-2 c = (ended (c .got .ensures) (omega arith), λ pre m N rs b F. took _ _ _ (is (c .before .before .before .before .before .before .peek .ensures) (c .before .before .before .before .before .if1 .left)) (laid (c .got .ensures) refl (capped _ pre b F (c .before .before .before .emit .ensures .1))))

@@ -5,11 +5,11 @@ use Rattle.reader.proofs.is_bare.Tie as tie
 use Rattle.reader.proofs.is_bare.Reads as reads
 use Rattle.reader.proofs.is_bare.Lts as lts
 
--- src/lib.rt:678:1
+-- src/lib.rt:686:1
 returns : tie.Need-returns
 returns c = bare-on _ (c .match .keys1)
 
--- src/lib.rt:678:1
+-- src/lib.rt:686:1
 returns-2 : tie.Need-returns-2
 returns-2 c = bare-end _ (c .match .rest .1)
 

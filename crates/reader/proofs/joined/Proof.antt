@@ -31,105 +31,105 @@ Inv-loop io from first at₀ flags₀ words₀ at flags words = ((at ≤ tokens 
 abbrev μ-loop : tie.MeasureT-loop
 μ-loop io from first at₀ flags₀ words₀ at flags words = tokens io - at
 
--- src/lib.rt:1184:20
+-- src/lib.rt:1192:20
 add-got : tie.Need-add-got Inv-loop μ-loop
 add-got c = omega arith
 
--- src/lib.rt:1184:9
+-- src/lib.rt:1192:9
 got-requires : tie.Need-got-requires Inv-loop μ-loop
 got-requires c κs = search needs
 
--- src/lib.rt:1184:9
+-- src/lib.rt:1192:9
 returns : tie.Need-returns Inv-loop μ-loop
 unfolding joinedW
 returns c = (ended (c .got .ensures) (omega arith), took _ _ _ (is (c .before .before .pre .1) (c .before .if1 .taken)) (laid (c .got .ensures) refl nothing))
 
--- src/lib.rt:1189:5
+-- src/lib.rt:1197:5
 loop-holds : tie.Need-loop-holds Inv-loop μ-loop
 unfolding joinedW
 loop-holds c = (omega arith, 3, omega arith, refl)
 
--- src/lib.rt:1190:13
+-- src/lib.rt:1198:13
 peek-requires : tie.Need-peek-requires Inv-loop μ-loop
 peek-requires c κs = search needs
 
--- src/lib.rt:1195:13
+-- src/lib.rt:1203:13
 wrong-requires : tie.Need-wrong-requires Inv-loop μ-loop
 wrong-requires c κs = omega arith
 
--- src/lib.rt:1195:13
+-- src/lib.rt:1203:13
 returns-2 : tie.Need-returns-2 Inv-loop μ-loop
 unfolding joinedW
 returns-2 c = (refused (c .wrong .ensures .0) (omega arith), left _ _ _ (isn't (c .before .before .before .before .before .before .pre .1) (c .before .before .before .before .before .if1 .left)) (by-walk (c .before .before .before .before .loop .inv .3 ∙ join-wrong _ _ (c .before .before .before .before .loop .inv .1) _ _ (isn't (c .before .before .before .peek .ensures) (c .before .before .if2 .left)) (isn't (c .before .before .before .peek .ensures) (c .before .if3 .taken))) (misfit (c .before .before .before .peek .ensures) (c .wrong .ensures .1))))
 
--- src/lib.rt:1198:13
+-- src/lib.rt:1206:13
 wrong-requires-2 : tie.Need-wrong-requires-2 Inv-loop μ-loop
 wrong-requires-2 c κs = omega arith
 
--- src/lib.rt:1198:13
+-- src/lib.rt:1206:13
 returns-3 : tie.Need-returns-3 Inv-loop μ-loop
 unfolding joinedW
 returns-3 c = (refused (c .wrong2 .ensures .0) (omega arith), left _ _ _ (isn't (c .before .before .before .before .before .before .before .pre .1) (c .before .before .before .before .before .before .if1 .left)) (by-walk (c .before .before .before .before .before .loop .inv .3 ∙ join-full _ _ (c .before .before .before .before .before .loop .inv .1) _ _ (omega (arith, c .before .before .before .before .before .loop .inv .2, c .before .if4 .taken)) (isn't (c .before .before .before .before .peek .ensures) (c .before .before .before .if2 .left))) (misfit (c .before .before .before .before .peek .ensures) (c .wrong2 .ensures .1))))
 
--- src/lib.rt:1200:51
+-- src/lib.rt:1208:51
 text-requires : tie.Need-text-requires Inv-loop μ-loop
 text-requires c κs = omega arith
 
--- src/lib.rt:1200:38
+-- src/lib.rt:1208:38
 flags-requires : tie.Need-flags-requires Inv-loop μ-loop
 flags-requires c κs = search needs
 
--- src/lib.rt:1200:9
+-- src/lib.rt:1208:9
 united-requires : tie.Need-united-requires Inv-loop μ-loop
 united-requires c κs = search needs
 
--- src/lib.rt:1201:9
+-- src/lib.rt:1209:9
 add-words : tie.Need-add-words Inv-loop μ-loop
 add-words c = omega (arith, c .before .before .before .before .before .before .before .before .before .pre, c .before .before .before .if4 .left, c .before .before .before .before .if3 .left, c .before .before .before .before .before .if2 .left, c .before .before .before .before .before .before .peek .ensures, c .before .before .before .before .before .before .before .loop .inv, c .before .before .before .before .before .before .before .before .if1 .left)
 
--- src/lib.rt:1202:9
+-- src/lib.rt:1210:9
 add-at : tie.Need-add-at Inv-loop μ-loop
 add-at c = omega (arith, c .before .before .before .before .before .before .before .before .before .pre, c .before .before .before .if4 .left, c .before .before .before .before .if3 .left, c .before .before .before .before .before .if2 .left, c .before .before .before .before .before .before .peek .ensures, c .before .before .before .before .before .before .before .loop .inv, c .before .before .before .before .before .before .before .before .if1 .left)
 
--- src/lib.rt:1189:5
+-- src/lib.rt:1197:5
 loop-less : tie.Need-loop-less Inv-loop μ-loop
 loop-less c = omega (arith, c .before .before .before .before .before .before .before .before .before .pre, c .before .before .before .if4 .left, c .before .before .before .before .if3 .left, c .before .before .before .before .before .if2 .left, c .before .before .before .before .before .before .peek .ensures, c .before .before .before .before .before .before .before .loop .inv, c .before .before .before .before .before .before .before .before .if1 .left)
 
--- src/lib.rt:1189:5
+-- src/lib.rt:1197:5
 loop-again : tie.Need-loop-again Inv-loop μ-loop
 unfolding joinedW
 loop-again c = let u : (c .united .result) ≤ 63 = rw (c .united .ensures, c .before .flags .ensures) (united-small _ _ (c .before .before .before .before .before .before .before .loop .inv .0 .2)) in (omega arith, c .before .before .before .before .before .before .before .loop .inv .1 - 1, omega (arith, c .before .before .before .before .before .before .before .loop .inv .2, c .before .before .before .before .before .before .before .loop .inv .0, c .before .before .before .if4 .left), c .before .before .before .before .before .before .before .loop .inv .3 ∙ join-word (kindsOf (c .before .before .before .before .before .before .before .before .before .args .io .now)) (textsOf (c .before .before .before .before .before .before .before .before .before .args .io .now)) (c .before .before .before .before .before .before .before .loop .inv .1) (c .before .before .before .before .before .before .before .loop .at) (c .before .before .before .before .before .before .before .loop .flags) (omega (arith, c .before .before .before .before .before .before .before .loop .inv .2, c .before .before .before .before .before .before .before .loop .inv .0, c .before .before .before .if4 .left)) (isn't (c .before .before .before .before .before .before .peek .ensures) (c .before .before .before .before .before .if2 .left)) (is (c .before .before .before .before .before .before .peek .ensures) (c .before .before .before .before .if3 .left)) ∙ ap (λ z. joinW (kindsOf (c .before .before .before .before .before .before .before .before .before .args .io .now)) (textsOf (c .before .before .before .before .before .before .before .before .before .args .io .now)) (c .before .before .before .before .before .before .before .loop .inv .1 - 1) (c .before .before .before .before .before .before .before .loop .at + 1) z) (sym (c .united .ensures ∙ ap (united (c .before .before .before .before .before .before .before .loop .flags)) (c .before .flags .ensures ∙ ap flagsOf (c .before .before .text .ensures)))))
 
--- src/lib.rt:1204:9
+-- src/lib.rt:1212:9
 legal-requires : tie.Need-legal-requires Inv-loop μ-loop
 legal-requires c κs = search needs
 
--- src/lib.rt:1205:33
+-- src/lib.rt:1213:33
 cast-t14 : tie.Need-cast-t14 Inv-loop μ-loop
 cast-t14 c = omega arith
 
--- src/lib.rt:1205:9
+-- src/lib.rt:1213:9
 returns-4 : tie.Need-returns-4 Inv-loop μ-loop
 unfolding joinedW
 returns-4 c = (record { holds = omega arith }, left _ _ _ (isn't (c .before .before .before .before .before .before .pre .1) (c .before .before .before .before .before .if1 .left)) (by-walk (c .before .before .before .before .loop .inv .3 ∙ join-there _ _ (c .before .before .before .before .loop .inv .1) _ _ (is (c .before .before .before .peek .ensures) (c .before .before .if2 .taken))) (left _ _ _ (sym (c .before .legal .ensures) ∙ not-true _ (c .if5 .taken)) (halted refl refl))))
 
--- src/lib.rt:1207:9
+-- src/lib.rt:1215:9
 add-got-2 : tie.Need-add-got-2 Inv-loop μ-loop
 add-got-2 c = omega arith
 
--- src/lib.rt:1207:21
+-- src/lib.rt:1215:21
 add-got-3 : tie.Need-add-got-3 Inv-loop μ-loop
 add-got-3 c = omega arith
 
--- src/lib.rt:1207:20
+-- src/lib.rt:1215:20
 cast-got : tie.Need-cast-got Inv-loop μ-loop
 cast-got c = omega arith
 
--- src/lib.rt:1207:5
+-- src/lib.rt:1215:5
 got-requires-2 : tie.Need-got-requires-2 Inv-loop μ-loop
 got-requires-2 c κs = search needs
 
--- src/lib.rt:1179:1
+-- src/lib.rt:1187:1
 returns-5 : tie.Need-returns-5 Inv-loop μ-loop
 unfolding joinedW
 returns-5 c = (ended (c .got2 .ensures) (omega arith), left _ _ _ (isn't (c .before .before .before .before .before .before .before .pre .1) (c .before .before .before .before .before .before .if1 .left)) (by-walk (c .before .before .before .before .before .loop .inv .3 ∙ join-there _ _ (c .before .before .before .before .before .loop .inv .1) _ _ (is (c .before .before .before .before .peek .ensures) (c .before .before .before .if2 .taken))) (took _ _ _ (sym (c .before .before .legal .ensures) ∙ not-false _ (c .before .if5 .left)) (laid (c .got2 .ensures) refl nothing))))

@@ -14,16 +14,16 @@ use Rattle.reader.proofs.literal_text.Reads as reads
 use Rattle.reader.proofs.literal_text.Lts as lts
 use Rattle.reader.proofs.text.Reads as text-reads
 
--- src/lib.rt:276:9
+-- src/lib.rt:284:9
 returns : tie.Need-returns
 unfolding choose
 returns c = ap (λ z. choose z 0 (getD (textsOf (c .before .args .io .now)) (c .before .args .at) 0)) (sym (eqb-true _ _ (c .if1 .taken)))
 
--- src/lib.rt:278:5
+-- src/lib.rt:286:5
 text-requires : tie.Need-text-requires
 text-requires c κs = search needs
 
--- src/lib.rt:271:1
+-- src/lib.rt:279:1
 returns-2 : tie.Need-returns-2
 unfolding choose
 returns-2 c = c .text .ensures ∙ ap (λ z. choose z 0 (getD (textsOf (c .before .before .args .io .now)) (c .before .before .args .at) 0)) (sym (ne-eqb _ _ (c .before .if1 .left)))

@@ -8,23 +8,23 @@ use Rattle.reader.proofs.peek.Tie as tie
 use Rattle.reader.proofs.peek.Reads as reads
 use Rattle.reader.proofs.peek.Lts as lts
 
--- src/lib.rt:127:13
+-- src/lib.rt:135:13
 element-copy-out-k : tie.Need-element-copy-out-k
 element-copy-out-k c = search needs
 
--- src/lib.rt:129:22
+-- src/lib.rt:137:22
 mul-result : tie.Need-mul-result
 mul-result c = search needs
 
--- src/lib.rt:129:22
+-- src/lib.rt:137:22
 shared-slice-read-result : tie.Need-shared-slice-read-result
 shared-slice-read-result c = search needs
 
--- src/lib.rt:124:1
+-- src/lib.rt:132:1
 returns : tie.Need-returns
 returns c = seen _ _ _ _ refl refl (omega (arith, c .shared-slice-known .given (c .before .before .before .args .at)))
 
--- src/lib.rt:124:1
+-- src/lib.rt:132:1
 returns-2 : tie.Need-returns-2
 returns-2 c = unseen _ _ _ refl (c .if1 .left)
 

@@ -6,7 +6,7 @@ use Rattle.reader.proofs.queries.Tie as tie
 use Rattle.reader.proofs.queries.Reads as reads
 use Rattle.reader.proofs.queries.Lts as lts
 
--- src/lib.rt:117:1
+-- src/lib.rt:125:1
 returns : tie.Need-returns
 unfolding queriesOf
 returns c = refl

@@ -19,83 +19,83 @@ Inv-loop nodes₀ from to a₀ b₀ nodes a b = (b ≤ length nodes) × (a < 262
 abbrev μ-loop : tie.MeasureT-loop
 μ-loop nodes₀ from to a₀ b₀ nodes a b = b
 
--- src/lib.rt:26:17
+-- src/lib.rt:27:17
 mul-a : tie.Need-mul-a Inv-loop μ-loop
 mul-a c = omega arith
 
--- src/lib.rt:27:17
+-- src/lib.rt:28:17
 mul-b : tie.Need-mul-b Inv-loop μ-loop
 mul-b c = omega arith
 
--- src/lib.rt:28:5
+-- src/lib.rt:29:5
 loop-holds : tie.Need-loop-holds Inv-loop μ-loop
 loop-holds c = (omega arith, omega arith, omega arith, omega arith, λ E t. t)
 
--- src/lib.rt:28:11
+-- src/lib.rt:29:11
 add-loop : tie.Need-add-loop Inv-loop μ-loop
 add-loop c = omega arith
 
--- src/lib.rt:29:9
+-- src/lib.rt:30:9
 sub-b : tie.Need-sub-b Inv-loop μ-loop
 sub-b c = omega arith
 
--- src/lib.rt:30:9
+-- src/lib.rt:31:9
 swap-requires : tie.Need-swap-requires Inv-loop μ-loop
 swap-requires c κs = omega arith
 
--- src/lib.rt:31:21
+-- src/lib.rt:32:21
 add-swap : tie.Need-add-swap Inv-loop μ-loop
 add-swap c = omega arith
 
--- src/lib.rt:31:28
+-- src/lib.rt:32:28
 add-swap-2 : tie.Need-add-swap-2 Inv-loop μ-loop
 add-swap-2 c = omega arith
 
--- src/lib.rt:31:9
+-- src/lib.rt:32:9
 swap-requires-2 : tie.Need-swap-requires-2 Inv-loop μ-loop
 swap-requires-2 c κs = omega arith
 
--- src/lib.rt:32:21
+-- src/lib.rt:33:21
 add-swap-3 : tie.Need-add-swap-3 Inv-loop μ-loop
 add-swap-3 c = omega (arith, c .before .before .before .before .before .before .before .before .before .before .before .before .pre, c .before .before .before .before .before .before .before .before .before .before .loop .inv)
 
--- src/lib.rt:32:28
+-- src/lib.rt:33:28
 add-swap-4 : tie.Need-add-swap-4 Inv-loop μ-loop
 add-swap-4 c = omega (arith, c .before .before .before .before .before .before .before .before .before .before .before .before .pre, c .before .before .before .before .before .before .before .before .before .before .loop .inv)
 
--- src/lib.rt:32:9
+-- src/lib.rt:33:9
 swap-requires-3 : tie.Need-swap-requires-3 Inv-loop μ-loop
 swap-requires-3 c κs = omega (arith, c .before .before .before .before .before .before .before .before .before .before .before .before .pre, c .before .before .before .before .before .before .before .before .before .before .loop .inv)
 
--- src/lib.rt:33:21
+-- src/lib.rt:34:21
 add-swap-5 : tie.Need-add-swap-5 Inv-loop μ-loop
 add-swap-5 c = omega (arith, c .before .before .before .before .before .before .before .before .before .before .before .before .before .before .before .before .pre, c .before .before .before .before .before .before .before .before .before .before .before .before .before .before .loop .inv)
 
--- src/lib.rt:33:28
+-- src/lib.rt:34:28
 add-swap-6 : tie.Need-add-swap-6 Inv-loop μ-loop
 add-swap-6 c = omega (arith, c .before .before .before .before .before .before .before .before .before .before .before .before .before .before .before .before .pre, c .before .before .before .before .before .before .before .before .before .before .before .before .before .before .loop .inv)
 
--- src/lib.rt:33:9
+-- src/lib.rt:34:9
 swap-requires-4 : tie.Need-swap-requires-4 Inv-loop μ-loop
 swap-requires-4 c κs = omega (arith, c .before .before .before .before .before .before .before .before .before .before .before .before .before .before .before .before .pre, c .before .before .before .before .before .before .before .before .before .before .before .before .before .before .loop .inv)
 
--- src/lib.rt:34:9
+-- src/lib.rt:35:9
 add-a : tie.Need-add-a Inv-loop μ-loop
 add-a c = omega (arith, c .before .before .before .before .before .before .before .before .before .before .before .before .before .before .before .before .before .before .before .pre, c .before .before .before .before .before .before .before .before .before .before .before .before .before .before .before .before .before .loop .inv)
 
--- src/lib.rt:28:5
+-- src/lib.rt:29:5
 loop-less : tie.Need-loop-less Inv-loop μ-loop
 loop-less c = omega (arith, c .before .before .before .before .before .before .before .before .before .before .before .before .before .before .before .before .before .before .before .pre, c .before .before .before .before .before .before .before .before .before .before .before .before .before .before .before .before .before .loop .inv)
 
--- src/lib.rt:28:5
+-- src/lib.rt:29:5
 loop-again : tie.Need-loop-again Inv-loop μ-loop
 loop-again c = (omega (arith, c .before .before .before .before .before .before .before .before .before .before .before .before .before .before .before .before .before .before .before .pre, c .before .before .before .before .before .before .before .before .before .before .before .before .before .before .before .before .before .loop .inv), omega (arith, c .before .before .before .before .before .before .before .before .before .before .before .before .before .before .before .before .before .before .before .pre, c .before .before .before .before .before .before .before .before .before .before .before .before .before .before .before .before .before .loop .inv), omega (arith, c .before .before .before .before .before .before .before .before .before .before .before .before .before .before .before .before .before .before .before .pre, c .before .before .before .before .before .before .before .before .before .before .before .before .before .before .before .before .before .loop .inv), omega (arith, c .before .before .before .before .before .before .before .before .before .before .before .before .before .before .before .before .before .before .before .pre, c .before .before .before .before .before .before .before .before .before .before .before .before .before .before .before .before .before .loop .inv), λ E t. turned-on (c .before .before .before .before .before .before .before .before .before .before .before .before .before .before .before .before .before .loop .nodes) _ _ _ _ E (c .before .before .before .before .before .before .before .before .before .before .before .before .before .before .before .before .before .loop .a) (c .before .before .before .before .before .before .before .before .before .before .before .before .before .before .before .before .before .loop .b) (c .before .before .before .before .before .before .before .before .before .before .before .before .before .before .before .before .before .loop .b - 4) (omega (arith, c .before .before .before .before .before .before .before .before .before .before .before .before .before .before .before .before .loop-test .taken)) (omega (arith, c .before .before .before .before .before .before .before .before .before .before .before .before .before .before .before .before .loop-test .taken)) (c .before .before .before .before .before .before .before .before .before .before .before .before .before .before .swap .ensures) (c .before .before .before .before .before .before .before .before .before .before .swap2 .ensures) (c .before .before .before .before .before .before .swap3 .ensures) (c .before .before .swap4 .ensures) (c .before .before .before .before .before .before .before .before .before .before .before .before .before .before .before .before .before .loop .inv .4 E t))
 
--- src/lib.rt:22:1
+-- src/lib.rt:23:1
 same-length : tie.Need-same-length Inv-loop μ-loop
 same-length c = search needs
 
--- src/lib.rt:22:1
+-- src/lib.rt:23:1
 returns : tie.Need-returns Inv-loop μ-loop
 returns c = λ E t. turned-whole _ E (c .before .loop .a) (c .before .loop .b) (c .loop-test .left) (c .before .loop .inv .4 E t)
 

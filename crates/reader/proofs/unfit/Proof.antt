@@ -19,47 +19,47 @@ Inv-loop kinds texts i₀ i = (i ≤ length kinds) × ((j : ℕ) → j < i → F
 abbrev μ-loop : tie.MeasureT-loop
 μ-loop kinds texts i₀ i = length kinds - i
 
--- src/lib.rt:1531:5
+-- src/lib.rt:1539:5
 loop-holds : tie.Need-loop-holds Inv-loop μ-loop
 loop-holds c = (omega arith, below-none (FitAt (c .before .before .args .kinds .now) (c .before .before .args .texts .now)))
 
--- src/lib.rt:1532:24
+-- src/lib.rt:1540:24
 mul-fit : tie.Need-mul-fit Inv-loop μ-loop
 mul-fit c = omega arith
 
--- src/lib.rt:1532:24
+-- src/lib.rt:1540:24
 shared-slice-read-fit : tie.Need-shared-slice-read-fit Inv-loop μ-loop
 shared-slice-read-fit c = omega arith
 
--- src/lib.rt:1532:34
+-- src/lib.rt:1540:34
 mul-fit-2 : tie.Need-mul-fit-2 Inv-loop μ-loop
 mul-fit-2 c = omega arith
 
--- src/lib.rt:1532:34
+-- src/lib.rt:1540:34
 shared-slice-read-fit-2 : tie.Need-shared-slice-read-fit-2 Inv-loop μ-loop
 shared-slice-read-fit-2 c = omega arith
 
--- src/lib.rt:1532:13
+-- src/lib.rt:1540:13
 fit-requires : tie.Need-fit-requires Inv-loop μ-loop
 fit-requires c κs = search needs
 
--- src/lib.rt:1533:13
+-- src/lib.rt:1541:13
 returns : tie.Need-returns Inv-loop μ-loop
 returns c = (omega arith, λ n. first-unfit (c .before .before .before .before .before .before .before .before .args .kinds .now) (c .before .before .before .before .before .before .before .before .args .texts .now) (c .before .before .before .before .before .loop .i) (omega arith) (omega arith) (c .before .before .before .before .before .loop .inv .1) (sym (c .before .fit .ensures) ∙ not-true _ (c .if1 .taken)))
 
--- src/lib.rt:1535:9
+-- src/lib.rt:1543:9
 add-i : tie.Need-add-i Inv-loop μ-loop
 add-i c = omega arith
 
--- src/lib.rt:1531:5
+-- src/lib.rt:1539:5
 loop-less : tie.Need-loop-less Inv-loop μ-loop
 loop-less c = omega arith
 
--- src/lib.rt:1531:5
+-- src/lib.rt:1539:5
 loop-again : tie.Need-loop-again Inv-loop μ-loop
 loop-again c = (omega arith, below-more (FitAt (c .before .before .before .before .before .before .before .before .args .kinds .now) (c .before .before .before .before .before .before .before .before .args .texts .now)) (c .before .before .before .before .before .loop .i) (c .before .before .before .before .before .loop .inv .1) (sym (c .before .fit .ensures) ∙ not-false _ (c .if1 .left)))
 
--- src/lib.rt:1527:1
+-- src/lib.rt:1535:1
 returns-2 : tie.Need-returns-2 Inv-loop μ-loop
 returns-2 c = (omega arith, λ n. absurd (n (all-below (c .before .before .before .before .args .kinds .now) (c .before .before .before .before .args .texts .now) (λ j l. c .before .loop .inv .1 j (omega arith)))))
 

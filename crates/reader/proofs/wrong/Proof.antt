@@ -9,19 +9,19 @@ use Rattle.reader.proofs.wrong.Reads as reads
 use Rattle.reader.proofs.wrong.Lts as lts
 use Rattle.reader.proofs.refused.Reads as refused-reads
 
--- src/lib.rt:181:9
+-- src/lib.rt:189:9
 refused-requires : tie.Need-refused-requires
 refused-requires c κs = search needs
 
--- src/lib.rt:181:9
+-- src/lib.rt:189:9
 returns : tie.Need-returns
 returns c = (record { why = 4; is = c .refused .ensures }, c .refused .ensures ∙ ap (λ z. step.Refused z (c .before .before .args .at)) (sym (wrong-end (c .before .if1 .taken))))
 
--- src/lib.rt:183:5
+-- src/lib.rt:191:5
 refused-requires-2 : tie.Need-refused-requires-2
 refused-requires-2 c κs = search needs
 
--- src/lib.rt:176:1
+-- src/lib.rt:184:1
 returns-2 : tie.Need-returns-2
 returns-2 c = (record { why = 3; is = c .refused2 .ensures }, c .refused2 .ensures ∙ ap (λ z. step.Refused z (c .before .before .args .at)) (sym (wrong-token (c .before .if1 .left))))
 

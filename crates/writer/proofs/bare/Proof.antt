@@ -19,35 +19,35 @@ Inv-loop io end i₀ i = BaredTo io end i
 abbrev μ-loop : tie.MeasureT-loop
 μ-loop io end i₀ i = i
 
--- src/lib.rt:181:5
+-- src/lib.rt:183:5
 loop-holds : tie.Need-loop-holds Inv-loop μ-loop
 loop-holds c = (omega arith, λ t. (t, refl))
 
--- src/lib.rt:181:11
+-- src/lib.rt:183:11
 code-requires : tie.Need-code-requires Inv-loop μ-loop
 code-requires c κs = search needs
 
--- src/lib.rt:181:42
+-- src/lib.rt:183:42
 children-requires : tie.Need-children-requires Inv-loop μ-loop
 children-requires c κs = search needs
 
--- src/lib.rt:182:9
+-- src/lib.rt:184:9
 last-requires : tie.Need-last-requires Inv-loop μ-loop
 last-requires c κs = search needs
 
--- src/lib.rt:181:5
+-- src/lib.rt:183:5
 loop-less : tie.Need-loop-less Inv-loop μ-loop
 loop-less c = let e = c .last .ensures in let h = c .before .before .before .before .code .ensures .some in let k = c .before .before .before .if1 .taken in let g : 0 < (c .before .before .before .before .before .loop .i) = h (omega (arith, k)) in omega (arith, e, g)
 
--- src/lib.rt:181:5
+-- src/lib.rt:183:5
 loop-again : tie.Need-loop-again Inv-loop μ-loop
 loop-again c = bare-on (c .before .before .before .before .before .loop .inv) (c .before .before .before .before .code .ensures) (c .before .before .before .if1 .taken) (c .before .before .children .ensures) (eqb-eq _ _ (c .before .if2 .taken)) (c .last .ensures)
 
--- src/lib.rt:177:1
+-- src/lib.rt:179:1
 returns : tie.Need-returns Inv-loop μ-loop
 returns c = bare-many (c .before .before .before .before .loop .inv) (c .before .before .before .code .ensures) (c .before .before .if1 .taken) (c .before .children .ensures) (λ e. absurd (0≢1 (sym (c .if2 .left) ∙ eqb-true _ _ e)))
 
--- src/lib.rt:177:1
+-- src/lib.rt:179:1
 returns-2 : tie.Need-returns-2 Inv-loop μ-loop
 returns-2 c = bare-other (c .before .before .loop .inv) (c .before .code .ensures) (c .if1 .left)
 

@@ -7,15 +7,15 @@ use Rattle.writer.proofs.before.Reads as reads
 use Rattle.writer.proofs.before.Lts as lts
 use Rattle.writer.proofs.field.Reads as field-reads
 
--- src/lib.rt:143:9
+-- src/lib.rt:145:9
 field-requires : tie.Need-field-requires
 field-requires c κs = search needs
 
--- src/lib.rt:145:9
+-- src/lib.rt:147:9
 returns : tie.Need-returns
 returns c = before-none (c .before .field .ensures) (c .if1 .taken)
 
--- src/lib.rt:140:1
+-- src/lib.rt:142:1
 returns-2 : tie.Need-returns-2
 returns-2 c = before-is (c .before .field .ensures)
 

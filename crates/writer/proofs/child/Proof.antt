@@ -19,31 +19,31 @@ Inv-loop io i n j₀ k₀ j k = backs (nodesOf io) k j ≡ backs (nodesOf io) n 
 abbrev μ-loop : tie.MeasureT-loop
 μ-loop io i n j₀ k₀ j k = k
 
--- src/lib.rt:154:9
+-- src/lib.rt:156:9
 last-requires : tie.Need-last-requires Inv-loop μ-loop
 last-requires c κs = search needs
 
--- src/lib.rt:156:5
+-- src/lib.rt:158:5
 loop-holds : tie.Need-loop-holds Inv-loop μ-loop
 loop-holds c = ap (backs (nodesOf (c .before .args .io .now)) (c .before .args .n)) (c .last .ensures)
 
--- src/lib.rt:157:9
+-- src/lib.rt:159:9
 before-requires : tie.Need-before-requires Inv-loop μ-loop
 before-requires c κs = search needs
 
--- src/lib.rt:158:9
+-- src/lib.rt:160:9
 sub-k : tie.Need-sub-k Inv-loop μ-loop
 sub-k c = omega arith
 
--- src/lib.rt:156:5
+-- src/lib.rt:158:5
 loop-less : tie.Need-loop-less Inv-loop μ-loop
 loop-less c = omega arith
 
--- src/lib.rt:156:5
+-- src/lib.rt:158:5
 loop-again : tie.Need-loop-again Inv-loop μ-loop
 loop-again c = backs-step (nodesOf (c .before .before .before .before .args .io .now)) (c .before .before .loop .k) (c .before .before .loop .j) (c .before .loop-test .taken) (c .before2 .ensures) ∙ c .before .before .loop .inv
 
--- src/lib.rt:151:1
+-- src/lib.rt:153:1
 returns : tie.Need-returns Inv-loop μ-loop
 returns c = sym (backs-none (nodesOf (c .before .before .before .args .io .now)) (c .before .loop .k) (c .before .loop .j) (c .loop-test .left)) ∙ c .before .loop .inv
 

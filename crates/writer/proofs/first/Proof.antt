@@ -20,35 +20,35 @@ Inv-loop io i j₀ n₀ j n = (j ≤ i - 1) × (backs (nodesOf io) (n - 1) j ≡
 abbrev μ-loop : tie.MeasureT-loop
 μ-loop io i j₀ n₀ j n = n
 
--- src/lib.rt:167:9
+-- src/lib.rt:169:9
 last-requires : tie.Need-last-requires Inv-loop μ-loop
 last-requires c κs = search needs
 
--- src/lib.rt:168:9
+-- src/lib.rt:170:9
 children-requires : tie.Need-children-requires Inv-loop μ-loop
 children-requires c κs = search needs
 
--- src/lib.rt:169:5
+-- src/lib.rt:171:5
 loop-holds : tie.Need-loop-holds Inv-loop μ-loop
 loop-holds c = (let e = c .before .last .ensures in omega (arith, e), ap (backs (nodesOf (c .before .before .args .io .now)) (c .children .result - 1)) (c .before .last .ensures))
 
--- src/lib.rt:170:9
+-- src/lib.rt:172:9
 before-requires : tie.Need-before-requires Inv-loop μ-loop
 before-requires c κs = search needs
 
--- src/lib.rt:171:9
+-- src/lib.rt:173:9
 sub-n : tie.Need-sub-n Inv-loop μ-loop
 sub-n c = omega arith
 
--- src/lib.rt:169:5
+-- src/lib.rt:171:5
 loop-less : tie.Need-loop-less Inv-loop μ-loop
 loop-less c = omega arith
 
--- src/lib.rt:169:5
+-- src/lib.rt:171:5
 loop-again : tie.Need-loop-again Inv-loop μ-loop
 loop-again c = (let a = c .before .before .loop .inv .0 in let e = c .before2 .ensures in let m = before-most (nodesOf (c .before .before .before .before .before .args .io .now)) (c .before .before .loop .j) in omega (arith, a, e, m), backs-step (nodesOf (c .before .before .before .before .before .args .io .now)) (c .before .before .loop .n - 1) (c .before .before .loop .j) (let h = c .before .loop-test .taken in omega (arith, h)) (c .before2 .ensures) ∙ c .before .before .loop .inv .1)
 
--- src/lib.rt:164:1
+-- src/lib.rt:166:1
 returns : tie.Need-returns Inv-loop μ-loop
 returns c = record { most = c .before .loop .inv .0; is = λ h. sym (backs-none (nodesOf (c .before .before .before .before .args .io .now)) (c .before .loop .n - 1) (c .before .loop .j) (let h = c .loop-test .left in omega (arith, h))) ∙ c .before .loop .inv .1 ∙ ap (λ z. backs (nodesOf (c .before .before .before .before .args .io .now)) (z - 1) (c .before .before .before .before .args .i - 1)) (children-at (c .before .before .children .ensures) h) }
 

@@ -8,19 +8,19 @@ use Rattle.writer.proofs.join_word.Reads as reads
 use Rattle.writer.proofs.join_word.Lts as lts
 use Rattle.writer.proofs.put.Reads as put-reads
 
--- src/lib.rt:808:9
+-- src/lib.rt:810:9
 returns : tie.Need-returns
 returns c = puts-as (join-none (c .if1 .taken)) nothing-put
 
--- src/lib.rt:810:5
+-- src/lib.rt:812:5
 put-requires : tie.Need-put-requires
 put-requires c κs = search needs
 
--- src/lib.rt:804:1
+-- src/lib.rt:806:1
 same-length : tie.Need-same-length
 same-length c = search needs
 
--- src/lib.rt:804:1
+-- src/lib.rt:806:1
 returns-2 : tie.Need-returns-2
 returns-2 c = puts-as (join-some (c .before .before .before .before .if1 .left)) (c .before .before .put .ensures)
 

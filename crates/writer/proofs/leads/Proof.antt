@@ -6,19 +6,19 @@ use Rattle.writer.proofs.leads.Tie as tie
 use Rattle.writer.proofs.leads.Reads as reads
 use Rattle.writer.proofs.leads.Lts as lts
 
--- src/lib.rt:332:1
+-- src/lib.rt:334:1
 returns : tie.Need-returns
 returns c = leads-below _ (λ e. c .before .match .rest .1 (inl e)) (λ e. c .before .match .rest .1 (inr e)) (c .if1 .taken)
 
--- src/lib.rt:332:1
+-- src/lib.rt:334:1
 returns-2 : tie.Need-returns-2
 returns-2 c = leads-above _ (c .if2 .left)
 
--- src/lib.rt:332:1
+-- src/lib.rt:334:1
 returns-3 : tie.Need-returns-3
 returns-3 c = leads-at _ (c .match .keys1)
 
--- src/lib.rt:332:1
+-- src/lib.rt:334:1
 returns-4 : tie.Need-returns-4
 returns-4 c = leads-within _ (c .before .if1 .left) (c .if2 .taken)
 

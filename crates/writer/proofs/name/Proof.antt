@@ -12,27 +12,27 @@ use Rattle.writer.proofs.detail.Reads as detail-reads
 use Rattle.writer.proofs.name_kind.Reads as name-kind-reads
 use Rattle.writer.proofs.put.Reads as put-reads
 
--- src/lib.rt:257:32
+-- src/lib.rt:259:32
 code-requires : tie.Need-code-requires
 code-requires c κs = search needs
 
--- src/lib.rt:257:22
+-- src/lib.rt:259:22
 name-kind-requires : tie.Need-name-kind-requires
 name-kind-requires c κs = search needs
 
--- src/lib.rt:257:46
+-- src/lib.rt:259:46
 detail-requires : tie.Need-detail-requires
 detail-requires c κs = search needs
 
--- src/lib.rt:257:5
+-- src/lib.rt:259:5
 put-requires : tie.Need-put-requires
 put-requires c κs = search needs
 
--- src/lib.rt:254:1
+-- src/lib.rt:256:1
 same-length : tie.Need-same-length
 same-length c = search needs
 
--- src/lib.rt:254:1
+-- src/lib.rt:256:1
 returns : tie.Need-returns
 returns c = record { told = λ w. puts-as (name-said w (code-of w (c .before .before .before .before .before .code .ensures)) (detail-of w (c .before .before .before .detail .ensures)) (c .before .before .before .before .name-kind .ensures)) (c .before .before .put .ensures) }
 

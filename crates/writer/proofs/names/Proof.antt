@@ -26,55 +26,55 @@ Inv-loop out₀ io i from sep n₀ j₀ to₀ out n j to = (length out ≡ lengt
 abbrev μ-loop : tie.MeasureT-loop
 μ-loop out₀ io i from sep n₀ j₀ to₀ out n j to = n
 
--- src/lib.rt:279:9
+-- src/lib.rt:281:9
 children-requires : tie.Need-children-requires Inv-loop μ-loop
 children-requires c κs = search needs
 
--- src/lib.rt:280:9
+-- src/lib.rt:282:9
 last-requires : tie.Need-last-requires Inv-loop μ-loop
 last-requires c κs = search needs
 
--- src/lib.rt:282:5
+-- src/lib.rt:284:5
 loop-holds : tie.Need-loop-holds Inv-loop μ-loop
 loop-holds c = (refl, λ w. row-yet _ w (children-at (c .before .children .ensures) (w .there)) (c .last .ensures))
 
--- src/lib.rt:283:9
+-- src/lib.rt:285:9
 name-requires : tie.Need-name-requires Inv-loop μ-loop
 name-requires c κs = search needs
 
--- src/lib.rt:284:9
+-- src/lib.rt:286:9
 before-requires : tie.Need-before-requires Inv-loop μ-loop
 before-requires c κs = search needs
 
--- src/lib.rt:285:9
+-- src/lib.rt:287:9
 sub-n : tie.Need-sub-n Inv-loop μ-loop
 sub-n c = omega arith
 
--- src/lib.rt:287:13
+-- src/lib.rt:289:13
 word-requires : tie.Need-word-requires Inv-loop μ-loop
 word-requires c κs = search needs
 
--- src/lib.rt:282:5
+-- src/lib.rt:284:5
 loop-less : tie.Need-loop-less Inv-loop μ-loop
 loop-less c = omega arith
 
--- src/lib.rt:282:5
+-- src/lib.rt:284:5
 loop-again : tie.Need-loop-again Inv-loop μ-loop
 loop-again c = (c .before .before .word .kept .0 ∙ c .before .before .before .before .before .before .before .before .name .kept .0 ∙ c .before .before .before .before .before .before .before .before .before .before .before .loop .inv .0, λ w. parted-more (c .before .before .before .before .before .before .before .before .before .before .before .loop .inv .1 w) (c .before .before .before .before .before .before .before .before .name .ensures .told) (c .before .before .word .ensures) (c .before .before .before .before .before .before2 .ensures) refl (c .before .before .before .before .if1 .taken))
 
--- src/lib.rt:282:5
+-- src/lib.rt:284:5
 loop-less-2 : tie.Need-loop-less-2 Inv-loop μ-loop
 loop-less-2 c = omega arith
 
--- src/lib.rt:282:5
+-- src/lib.rt:284:5
 loop-again-2 : tie.Need-loop-again-2 Inv-loop μ-loop
 loop-again-2 c = (c .before .before .before .before .name .kept .0 ∙ c .before .before .before .before .before .before .before .loop .inv .0, λ w. parted-final _ (c .before .before .before .before .before .before .before .loop .inv .1 w) (c .before .before .before .before .name .ensures .told) (c .before .before2 .ensures) refl (c .before .before .before .before .before .before .loop-test .taken) (c .if1 .left))
 
--- src/lib.rt:276:1
+-- src/lib.rt:278:1
 same-length : tie.Need-same-length Inv-loop μ-loop
 same-length c = c .before .loop .inv .0
 
--- src/lib.rt:276:1
+-- src/lib.rt:278:1
 returns : tie.Need-returns Inv-loop μ-loop
 returns c = record { told = λ w. parted-done _ (c .before .loop .inv .1 w) (c .loop-test .left) }
 

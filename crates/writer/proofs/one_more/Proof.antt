@@ -8,16 +8,16 @@ use Rattle.writer.proofs.one_more.Tie as tie
 use Rattle.writer.proofs.one_more.Reads as reads
 use Rattle.writer.proofs.one_more.Lts as lts
 
--- src/lib.rt:379:16
+-- src/lib.rt:381:16
 add-result : tie.Need-add-result
 add-result c = search needs
 
--- src/lib.rt:379:9
+-- src/lib.rt:381:9
 returns : tie.Need-returns
 unfolding choose
 returns c = sym (ap (λ b. choose b (c .before .args .n + 1) (c .before .args .n)) (c .if1 .taken))
 
--- src/lib.rt:374:1
+-- src/lib.rt:376:1
 returns-2 : tie.Need-returns-2
 unfolding choose
 returns-2 c = sym (ap (λ b. choose b (c .before .args .n + 1) (c .before .args .n)) (c .if1 .left))

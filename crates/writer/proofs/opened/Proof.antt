@@ -23,31 +23,31 @@ Inv-loop out₀ io from pairs to₀ n₀ out to n = (n ≤ pairs) × (length out
 abbrev μ-loop : tie.MeasureT-loop
 μ-loop out₀ io from pairs to₀ n₀ out to n = n
 
--- src/lib.rt:390:5
+-- src/lib.rt:392:5
 loop-holds : tie.Need-loop-holds Inv-loop μ-loop
 loop-holds c = (omega arith, refl, puts-as (opens-none _) nothing-put)
 
--- src/lib.rt:391:9
+-- src/lib.rt:393:9
 word-requires : tie.Need-word-requires Inv-loop μ-loop
 word-requires c κs = search needs
 
--- src/lib.rt:392:9
+-- src/lib.rt:394:9
 sub-n : tie.Need-sub-n Inv-loop μ-loop
 sub-n c = omega arith
 
--- src/lib.rt:390:5
+-- src/lib.rt:392:5
 loop-less : tie.Need-loop-less Inv-loop μ-loop
 loop-less c = omega arith
 
--- src/lib.rt:390:5
+-- src/lib.rt:392:5
 loop-again : tie.Need-loop-again Inv-loop μ-loop
 loop-again c = (omega (arith, c .before .before .before .before .before .loop .inv .0), c .before .before .word .kept .0 ∙ c .before .before .before .before .before .loop .inv .1, puts-as (opens-next _ _ (c .before .before .before .before .before .loop .inv .0) (c .before .before .before .before .loop-test .taken)) (c .before .before .word .ensures after (c .before .before .before .before .before .loop .inv .2)))
 
--- src/lib.rt:385:1
+-- src/lib.rt:387:1
 same-length : tie.Need-same-length Inv-loop μ-loop
 same-length c = c .before .loop .inv .1
 
--- src/lib.rt:385:1
+-- src/lib.rt:387:1
 returns : tie.Need-returns Inv-loop μ-loop
 returns c = puts-as (opens-all _ _ (c .loop-test .left)) (c .before .loop .inv .2)
 

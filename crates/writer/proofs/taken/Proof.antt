@@ -8,19 +8,19 @@ use Rattle.writer.proofs.taken.Lts as lts
 use Rattle.writer.proofs.child.Reads as child-reads
 use Rattle.writer.proofs.code.Reads as code-reads
 
--- src/lib.rt:775:8
+-- src/lib.rt:777:8
 code-requires : tie.Need-code-requires
 code-requires c κs = search needs
 
--- src/lib.rt:776:9
+-- src/lib.rt:778:9
 child-requires : tie.Need-child-requires
 child-requires c κs = search needs
 
--- src/lib.rt:776:9
+-- src/lib.rt:778:9
 returns : tie.Need-returns
 returns c = taken-join (c .before .before .code .ensures) (c .before .if1 .taken) (c .child .ensures)
 
--- src/lib.rt:772:1
+-- src/lib.rt:774:1
 returns-2 : tie.Need-returns-2
 returns-2 c = taken-source (c .before .code .ensures) (c .if1 .left)
 

@@ -10,23 +10,23 @@ use Rattle.writer.proofs.names.Reads as names-reads
 use Rattle.writer.proofs.word.Reads as word-reads
 use Rattle.writer.proofs.words.Reads as words-reads
 
--- src/lib.rt:828:9
+-- src/lib.rt:830:9
 word-requires : tie.Need-word-requires
 word-requires c κs = search needs
 
--- src/lib.rt:829:9
+-- src/lib.rt:831:9
 names-requires : tie.Need-names-requires
 names-requires c κs = search needs
 
--- src/lib.rt:830:5
+-- src/lib.rt:832:5
 words-requires : tie.Need-words-requires
 words-requires c κs = search needs
 
--- src/lib.rt:825:1
+-- src/lib.rt:827:1
 same-length : tie.Need-same-length
 same-length c = search needs
 
--- src/lib.rt:825:1
+-- src/lib.rt:827:1
 returns : tie.Need-returns
 returns c = record { told = λ w. c .before .before .words .ensures after (c .before .before .before .before .before .before .names .ensures .told) w after (c .before .before .before .before .before .before .before .before .before .before .word .ensures) }
 

@@ -8,19 +8,19 @@ use Rattle.writer.proofs.words.Reads as reads
 use Rattle.writer.proofs.words.Lts as lts
 use Rattle.writer.proofs.word.Reads as word-reads
 
--- src/lib.rt:214:9
+-- src/lib.rt:216:9
 word-requires : tie.Need-word-requires
 word-requires c κs = search needs
 
--- src/lib.rt:215:5
+-- src/lib.rt:217:5
 word-requires-2 : tie.Need-word-requires-2
 word-requires-2 c κs = search needs
 
--- src/lib.rt:211:1
+-- src/lib.rt:213:1
 same-length : tie.Need-same-length
 same-length c = search needs
 
--- src/lib.rt:211:1
+-- src/lib.rt:213:1
 returns : tie.Need-returns
 returns c = c .before .before .word2 .ensures after (c .before .before .before .before .before .before .word .ensures)
 

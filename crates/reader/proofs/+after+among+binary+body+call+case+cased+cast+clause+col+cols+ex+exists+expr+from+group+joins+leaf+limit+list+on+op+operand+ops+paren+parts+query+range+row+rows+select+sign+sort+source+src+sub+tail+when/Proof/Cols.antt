@@ -21,62 +21,62 @@ cols-Inv-loop io nodes₀ from base ask at₀ made₀ n₀ nodes at made n = ((a
 abbrev pub cols-μ-loop : lts.MeasureT-loop
 cols-μ-loop io nodes₀ from base ask at₀ made₀ n₀ nodes at made n = tokens io - at
 
--- src/lib.rt:576:5
+-- src/lib.rt:584:5
 pub loop-holds : (t : ℕ) → lts.Need-loop-holds (cols-claims t) (cols-at t) cols.Post cols-Inv-loop cols-μ-loop
 unfolding exprW
 loop-holds t c = (omega arith, λ a p. loop-start)
 
--- src/lib.rt:577:13
+-- src/lib.rt:585:13
 pub col-requires : (t : ℕ) → lts.Need-col-requires (cols-claims t) (cols-at t) cols.Post cols-Inv-loop cols-μ-loop
 col-requires t c κs = omega arith
 
--- src/lib.rt:578:29
+-- src/lib.rt:586:29
 pub enum-known-r : (t : ℕ) → lts.Need-enum-known-r (cols-claims t) (cols-at t) cols.Post cols-Inv-loop cols-μ-loop
 enum-known-r t c = c .match .keys1
 
--- src/lib.rt:579:13
+-- src/lib.rt:587:13
 pub enum-told : (t : ℕ) → lts.Need-enum-told (cols-claims t) (cols-at t) cols.Post cols-Inv-loop cols-μ-loop
 enum-told t c = c .match .keys2
 
--- src/lib.rt:579:13
+-- src/lib.rt:587:13
 pub same-length : (t : ℕ) → lts.Need-same-length (cols-claims t) (cols-at t) cols.Post cols-Inv-loop cols-μ-loop
 same-length t c = search needs
 
--- src/lib.rt:579:13
+-- src/lib.rt:587:13
 pub returns : (t : ℕ) → lts.Need-returns (cols-claims t) (cols-at t) cols.Post cols-Inv-loop cols-μ-loop
 unfolding exprW
 returns t c = (passed-on (c .before .before .before .before .col .ensures .0) (c .enum-told .given .1), record { does = λ a p. c .before .before .before .before .before .before .loop .inv .1 a p .on _ _ (next (c .before .before .before .before .col .ensures .1 .does a p) (λ f h. halts _ _ h (c .enum-told .given .1))) })
 
--- src/lib.rt:582:9
+-- src/lib.rt:590:9
 pub add-n : (t : ℕ) → lts.Need-add-n (cols-claims t) (cols-at t) cols.Post cols-Inv-loop cols-μ-loop
 add-n t c = omega (arith, got-in (c .before .before .before .before .before .col .ensures .0) (c .before .r .given .1), c .before .before .before .before .before .before .before .before .before .pre, c .before .before .before .before .before .before .before .loop .inv)
 
--- src/lib.rt:584:13
+-- src/lib.rt:592:13
 pub peek-requires : (t : ℕ) → lts.Need-peek-requires (cols-claims t) (cols-at t) cols.Post cols-Inv-loop cols-μ-loop
 peek-requires t c κs = search needs
 
--- src/lib.rt:588:9
+-- src/lib.rt:596:9
 pub add-at : (t : ℕ) → lts.Need-add-at (cols-claims t) (cols-at t) cols.Post cols-Inv-loop cols-μ-loop
 add-at t c = omega (arith, got-in (c .before .before .before .before .before .before .before .col .ensures .0) (c .before .before .before .r .given .1), c .before .before .before .before .before .before .before .before .before .before .before .pre, c .if1 .left, c .before .peek .ensures, c .before .before .before .before .before .before .before .before .before .loop .inv)
 
--- src/lib.rt:576:5
+-- src/lib.rt:584:5
 pub loop-less : (t : ℕ) → lts.Need-loop-less (cols-claims t) (cols-at t) cols.Post cols-Inv-loop cols-μ-loop
 loop-less t c = omega (arith, got-in (c .before .before .before .before .before .before .before .col .ensures .0) (c .before .before .before .r .given .1), c .before .before .before .before .before .before .before .before .before .before .before .pre, c .if1 .left, c .before .peek .ensures, c .before .before .before .before .before .before .before .before .before .loop .inv)
 
--- src/lib.rt:576:5
+-- src/lib.rt:584:5
 pub loop-again : (t : ℕ) → lts.Need-loop-again (cols-claims t) (cols-at t) cols.Post cols-Inv-loop cols-μ-loop
 unfolding exprW
 loop-again t c = (omega (arith, got-in (c .before .before .before .before .before .before .before .col .ensures .0) (c .before .before .before .r .given .1), c .before .before .before .before .before .before .before .before .before .before .before .pre, c .if1 .left, c .before .peek .ensures, c .before .before .before .before .before .before .before .before .before .loop .inv), λ a p. record { on = λ r N' l. c .before .before .before .before .before .before .before .before .before .loop .inv .1 a p .on r N' (next (c .before .before .before .before .before .before .before .col .ensures .1 .does a p also l) (λ f h. goes _ _ (h .0) (c .before .before .before .r .given .1) (λ rs F. took _ _ _ (is (c .before .peek .ensures) (c .if1 .left)) (behind _ _ F (h .1))))) })
 
--- src/lib.rt:590:5
+-- src/lib.rt:598:5
 pub counted-requires : (t : ℕ) → lts.Need-counted-requires (cols-claims t) (cols-at t) cols.Post cols-Inv-loop cols-μ-loop
 counted-requires t c κs = omega (arith, got-in (c .before .before .before .before .before .before .before .col .ensures .0) (c .before .before .before .r .given .1), c .before .before .before .before .before .before .before .before .before .before .before .pre, c .if1 .taken, c .before .peek .ensures, c .before .before .before .before .before .before .before .before .before .loop .inv)
 
--- src/lib.rt:569:1
+-- src/lib.rt:577:1
 pub same-length-2 : (t : ℕ) → lts.Need-same-length-2 (cols-claims t) (cols-at t) cols.Post cols-Inv-loop cols-μ-loop
 same-length-2 t c = search needs
 
--- src/lib.rt:569:1
+-- src/lib.rt:577:1
 pub returns-2 : (t : ℕ) → lts.Need-returns-2 (cols-claims t) (cols-at t) cols.Post cols-Inv-loop cols-μ-loop
 unfolding exprW
 returns-2 t c = (ended (c .counted .ensures) (omega (arith, got-in (c .before .before .before .before .before .before .before .before .col .ensures .0) (c .before .before .before .before .r .given .1), c .before .before .before .before .before .before .before .before .before .before .before .before .pre, c .before .if1 .taken, c .before .before .peek .ensures, c .before .before .before .before .before .before .before .before .before .before .loop .inv)), record { does = λ a p. c .before .before .before .before .before .before .before .before .before .before .loop .inv .1 a p .on _ _ (next (c .before .before .before .before .before .before .before .before .col .ensures .1 .does a p) (λ f h. goes _ _ h (c .before .before .before .before .r .given .1) (λ rs F. left _ _ _ (isn't (c .before .before .peek .ensures) (c .before .if1 .taken)) (laid (c .counted .ensures) refl (F))))) })
