@@ -1,2 +1,4 @@
 pub mod TableSteps
 pub mod DigestSteps
+pub mod BlockSteps
+pub mod OneShowing

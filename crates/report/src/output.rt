@@ -2,7 +2,7 @@
 // bytes of the block wait, and answers how many wait then.
 ghost use mathlib.Core.Path.{_≡_};
 ghost use Prim.Native.Nat.{_+_};
-ghost use Rattle.report.specs.Blocks.{placeIn, blockWith};
+ghost use Rattle.report.specs.Blocks.{placeIn, blockWith, waitingAfter, blockAfter, Shows};
 use libc::STDOUT_FILENO;
 
 pub const BLOCK: usize = 65536;
@@ -20,7 +20,10 @@ pub fn byte(block: &mut [u8; BLOCK], waiting: usize, b: u8) -> usize
     1
 }
 
-pub fn bytes(block: &mut [u8; BLOCK], waiting: usize, s: &[u8]) -> usize {
+pub fn bytes(block: &mut [u8; BLOCK], waiting: usize, s: &[u8]) -> usize
+    ensures { λ r. ⌜ r ≡ waitingAfter waiting (now (s .entry)) ⌝ }
+    ensures { λ _. ⌜ now (block .exit) ≡ blockAfter (now (block .entry)) waiting (now (s .entry)) ⌝ }
+{
     let mut now = waiting;
     let mut i = 0;
     while i < s.len() {
@@ -31,7 +34,9 @@ pub fn bytes(block: &mut [u8; BLOCK], waiting: usize, s: &[u8]) -> usize {
 }
 
 // The decimal digits of a number.
-pub fn number(block: &mut [u8; BLOCK], waiting: usize, n: u64) -> usize {
+pub fn number(block: &mut [u8; BLOCK], waiting: usize, n: u64) -> usize
+    ensures { λ r. ⌜ Shows (now (block .entry)) waiting n r (now (block .exit)) ⌝ }
+{
     let mut text = [0u8; 20];
     let k = io::decimal(n, &mut text);
     bytes(block, waiting, &text[..k])
