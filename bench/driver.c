@@ -3,6 +3,7 @@
 #include <stdlib.h>
 #include <string.h>
 #include <stdint.h>
+#include <time.h>
 typedef uint32_t u32; typedef uint64_t u64;
 typedef struct { u32 *p; u64 n; } Slice;
 typedef struct { uint8_t tag; u32 number; u64 place; } Answer;
@@ -70,11 +71,12 @@ int main(int argc, char **argv) {
     if (!strcmp(argv[1], "bench")) {
         u64 n, tokens = 0; static u32 *ks[4096], *ts[4096]; static u64 ns[4096]; int c = 0;
         while (parse(f, &n)) { if (!n) continue; ks[c] = malloc(n * 4); ts[c] = malloc(n * 4); memcpy(ks[c], kinds, n * 4); memcpy(ts[c], texts, n * 4); ns[c++] = n; tokens += n; }
-        int rounds = atoi(argv[3]); u64 ok = 0;
+        int rounds = atoi(argv[3]); u64 ok = 0; struct timespec from, to; clock_gettime(CLOCK_MONOTONIC, &from);
         for (int r = 0; r < rounds; r++) for (int i = 0; i < c; i++) { Slice k = {ks[i], ns[i]}, t = {ts[i], ns[i]}, o = {nodes, 80000}, x = {wk, 16384}, y = {wt, 16384}; Answer a;
             if (writes) writer_write(&a, &k, &t, &o, &x, &y); else reader_read(&a, &k, &t, &o);
             ok += a.tag == 0; }
-        printf("bench: %d commands, %lu tokens, %lu accepted\n", c, tokens, ok); return 0;
+        clock_gettime(CLOCK_MONOTONIC, &to); double spent = (to.tv_sec - from.tv_sec) * 1e9 + (to.tv_nsec - from.tv_nsec);
+        printf("bench: %d commands, %lu tokens, %lu accepted, %.1f ns a token\n", c, tokens, ok, spent / rounds / tokens); return 0;
     }
     return 2;
 }
