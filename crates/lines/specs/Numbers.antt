@@ -7,6 +7,10 @@ use lib.ListN.{length, set}
 use Rattle.lines.specs.declared.number.Longer.{Longer}
 use Rattle.lines.specs.declared.number.Longer.the-variants.{Number, Over}
 
+-- the largest u32
+abbrev pub U32-MAX : ℕ
+U32-MAX = 4294967295
+
 -- the digit that a byte is, `0` to `9` in ASCII, or 10
 abbrev pub digitOf : ℕ → ℕ
 digitOf b = cond (leb 48 b) (cond (leb b 57) (b - 48) 10) 10

@@ -8,7 +8,11 @@ mod number;
 mod vectors;
 
 ghost use mathlib.Core.Path.{_≡_};
+ghost use Prim.Native.Nat.{_≤_};
 ghost use Rattle.lines.specs.Numbers.{lastSet};
+ghost use Rattle.lines.specs.States.{along, blankWays, dotWays, digitWays};
+ghost use Rattle.lines.specs.Forms.{noLine, isWrong, isRoom, tableOf, outKindsOf, outTextsOf, mayEnd, endedLine, lineWith, kindsWith, textsWith};
+ghost use Rattle.lines.specs.Forms as forms;
 pub use number::Longer;
 pub use number::digit;
 pub use number::with_digit;
@@ -95,7 +99,9 @@ pub struct Line {
     outt: u32,
 }
 
-pub fn begun() -> Line {
+pub fn begun() -> Line
+    ensures { λ r. ⌜ r ≡ noLine ⌝ }
+{
     Line {
         state: START,
         spelled: 0,
@@ -109,31 +115,43 @@ pub fn begun() -> Line {
     }
 }
 
-pub fn is_wrong(line: Line) -> bool {
+pub fn is_wrong(line: Line) -> bool
+    ensures { λ r. ⌜ r ≡ isWrong line ⌝ }
+{
     line.state == WRONG
 }
 
 // Whether the line has the second form.
-pub fn is_room(line: Line) -> bool {
+pub fn is_room(line: Line) -> bool
+    ensures { λ r. ⌜ r ≡ isRoom line ⌝ }
+{
     line.spelled > 0
 }
 
 // How many numbers the node table is to have.
-pub fn table(line: Line) -> u32 {
+pub fn table(line: Line) -> u32
+    ensures { λ r. ⌜ r ≡ tableOf line ⌝ }
+{
     if line.spelled > 0 { line.table } else { TABLE }
 }
 
 // How many kinds and how many text numbers the writer's output is to have.
-pub fn out_kinds(line: Line) -> u32 {
+pub fn out_kinds(line: Line) -> u32
+    ensures { λ r. ⌜ r ≡ outKindsOf line ⌝ }
+{
     if line.spelled > 0 { line.outk } else { OUTPUT }
 }
 
-pub fn out_texts(line: Line) -> u32 {
+pub fn out_texts(line: Line) -> u32
+    ensures { λ r. ⌜ r ≡ outTextsOf line ⌝ }
+{
     if line.spelled > 0 { line.outt } else { OUTPUT }
 }
 
 // Whether what was taken is a line of one of the forms.
-pub fn may_end(line: Line) -> bool {
+pub fn may_end(line: Line) -> bool
+    ensures { λ r. ⌜ r ≡ mayEnd line ⌝ }
+{
     let state = line.state;
     match state {
         START | GAP | KIND | TEXT => true,
@@ -143,7 +161,9 @@ pub fn may_end(line: Line) -> bool {
 }
 
 // The line at its end: wrong, just after its last byte, where it is cut short.
-pub fn ended(line: Line) -> Line {
+pub fn ended(line: Line) -> Line
+    ensures { λ r. ⌜ r ≡ endedLine line ⌝ }
+{
     if line.state == WRONG {
         return line;
     }
@@ -154,83 +174,180 @@ pub fn ended(line: Line) -> Line {
 }
 
 // One byte more, that is no line end; a number of a list goes into its list.
-pub fn taken(line: Line, byte: u8, kinds: &mut [u32], texts: &mut [u32]) -> Line {
+pub fn taken(line: Line, byte: u8, kinds: &mut [u32], texts: &mut [u32]) -> Line
+    ensures { λ r. ⌜ r ≡ lineWith line byte ⌝ }
+    ensures { λ r. ⌜ now (kinds .exit) ≡ kindsWith (lineWith line byte) (now (kinds .entry)) ⌝ }
+    ensures { λ r. ⌜ now (texts .exit) ≡ textsWith (lineWith line byte) (now (texts .entry)) ⌝ }
+{
     let now = next(line, byte);
-    store(now, kinds, texts);
+    store_kind(now, kinds);
+    store_text(now, texts);
     now
 }
 
-fn next(old: Line, byte: u8) -> Line {
+fn next(old: Line, byte: u8) -> Line
+    ensures { λ r. ⌜ r ≡ lineWith old byte ⌝ }
+{
     if old.state == WRONG {
         return old;
     }
-    let line = counted(old);
+    on_byte(counted(old), byte)
+}
+
+fn on_byte(line: Line, byte: u8) -> Line
+    ensures { λ r. ⌜ r ≡ forms.onByte line byte ⌝ }
+{
     if byte == b' ' {
-        return blank(line);
+        return to(line, after_blank(line.state));
+    }
+    if byte == b'.' {
+        return to(line, after_dot(line.state));
     }
     let d = digit(byte);
     if d < 10 {
         return figure(line, d);
     }
-    mark(line, byte)
+    letter(line, byte)
 }
 
-fn counted(mut line: Line) -> Line {
+fn counted(mut line: Line) -> Line
+    ensures { λ r. ⌜ r ≡ forms.counted line ⌝ }
+{
     line.column = std::num::wrapping_add_u64(line.column, 1);
     line
 }
 
-fn wrong(line: Line) -> Line {
+fn wrong(line: Line) -> Line
+    ensures { λ r. ⌜ r ≡ forms.wrongLine line ⌝ }
+{
     to(line, WRONG)
 }
 
-fn to(mut line: Line, state: u8) -> Line {
+fn to(mut line: Line, state: u8) -> Line
+    ensures { λ r. ⌜ r ≡ forms.atState state line ⌝ }
+{
     line.state = state;
     line
 }
 
-fn blank(line: Line) -> Line {
-    let state = line.state;
+// Where a blank leads: it may stand before, between and after numbers and words.
+fn after_blank(state: u8) -> u8
+    ensures { λ r. ⌜ r ≡ along blankWays state ⌝ }
+{
     match state {
-        START | GAP | SPACE | BETWEEN => line,
-        KIND | TEXT => to(line, GAP),
-        SIZE => to(line, SPACE),
-        COLON | ITEM => to(line, BETWEEN),
-        _ => wrong(line),
+        START => START,
+        GAP | KIND | TEXT => GAP,
+        SPACE | SIZE => SPACE,
+        BETWEEN | COLON | ITEM => BETWEEN,
+        _ => WRONG,
     }
 }
 
-fn figure(line: Line, d: u32) -> Line {
-    let state = line.state;
+fn after_dot(state: u8) -> u8
+    ensures { λ r. ⌜ r ≡ along dotWays state ⌝ }
+{
     match state {
-        START | GAP => token(line, d),
-        KIND | TEXT | ITEM => more(line, d, u32::MAX),
-        DOT => first(line, TEXT, d),
-        EQUALS => sized(first(line, SIZE, d)),
-        SIZE => sized(more(line, d, most(line))),
-        BETWEEN => item(line, d),
-        _ => wrong(line),
+        KIND => DOT,
+        _ => WRONG,
     }
 }
 
-// The first digit of a number.
-fn first(mut line: Line, state: u8, d: u32) -> Line {
+fn after_digit(state: u8) -> u8
+    ensures { λ r. ⌜ r ≡ along digitWays state ⌝ }
+{
+    match state {
+        START | GAP | KIND => KIND,
+        DOT | TEXT => TEXT,
+        EQUALS | SIZE => SIZE,
+        BETWEEN | ITEM => ITEM,
+        _ => WRONG,
+    }
+}
+
+// A digit begins a number, or is one more of the number that the line is in.
+fn figure(line: Line, d: u32) -> Line
+    ensures { λ r. ⌜ r ≡ forms.onDigit line d ⌝ }
+{
+    let state = after_digit(line.state);
+    if state == WRONG {
+        return wrong(line);
+    }
+    if state == line.state {
+        return grown(line, d);
+    }
+    grown(entered(line, state), d)
+}
+
+// A number begins, and is an entry more of the lists that it is in.
+fn entered(mut line: Line, state: u8) -> Line
+    ensures { λ r. ⌜ r ≡ forms.entered state line ⌝ }
+{
+    let k = new_kinds(state, line.spelled);
+    let t = new_texts(state, line.spelled);
+    if line.kinds > TOKENS - k {
+        return wrong(line);
+    }
+    if line.texts > TOKENS - t {
+        return wrong(line);
+    }
     line.state = state;
-    line.number = d;
+    line.number = 0;
+    line.kinds += k;
+    line.texts += t;
     line
 }
 
-// A digit more of a number up to `most`.
-fn more(mut line: Line, d: u32, most: u32) -> Line {
-    let grown = with_digit(line.number, d, most);
-    let Longer::Number(n) = grown else {
+// A token has a kind and a text number; a number of a list is one of the two.
+fn new_kinds(state: u8, spelled: usize) -> usize
+    ensures { λ r. ⌜ r ≡ forms.newKinds state spelled ⌝ }
+    ensures { λ r. ⌜ r ≤ 1 ⌝ }
+{
+    if state == KIND {
+        return 1;
+    }
+    if state == ITEM {
+        if spelled == AFTER_KINDS {
+            return 1;
+        }
+    }
+    0
+}
+
+fn new_texts(state: u8, spelled: usize) -> usize
+    ensures { λ r. ⌜ r ≡ forms.newTexts state spelled ⌝ }
+    ensures { λ r. ⌜ r ≤ 1 ⌝ }
+{
+    if state == KIND {
+        return 1;
+    }
+    if state == ITEM {
+        if spelled != AFTER_KINDS {
+            return 1;
+        }
+    }
+    0
+}
+
+// A digit more.
+fn grown(line: Line, d: u32) -> Line
+    ensures { λ r. ⌜ r ≡ forms.grown line d ⌝ }
+{
+    if line.state == WRONG {
+        return line;
+    }
+    let longer = with_digit(line.number, d, most(line));
+    let Longer::Number(n) = longer else {
         return wrong(line);
     };
-    line.number = n;
-    line
+    numbered(line, n)
 }
 
-fn most(line: Line) -> u32 {
+fn most(line: Line) -> u32
+    ensures { λ r. ⌜ r ≡ forms.most line ⌝ }
+{
+    if line.state != SIZE {
+        return u32::MAX;
+    }
     if line.spelled == AFTER_TABLE {
         TABLE
     } else {
@@ -238,65 +355,38 @@ fn most(line: Line) -> u32 {
     }
 }
 
-// The number after `=` is that of what stands before it.
-fn sized(mut line: Line) -> Line {
+// A number after `=` is the size that the word before it asks for.
+fn numbered(mut line: Line, n: u32) -> Line
+    ensures { λ r. ⌜ r ≡ forms.numbered n line ⌝ }
+{
+    line.number = n;
+    if line.state != SIZE {
+        return line;
+    }
     let at = line.spelled;
     match at {
-        AFTER_TABLE => line.table = line.number,
-        AFTER_OUTK => line.outk = line.number,
-        AFTER_OUTT => line.outt = line.number,
+        AFTER_TABLE => line.table = n,
+        AFTER_OUTK => line.outk = n,
+        AFTER_OUTT => line.outt = n,
         _ => {}
     }
     line
 }
 
-// A token begins.
-fn token(line: Line, d: u32) -> Line {
-    if line.kinds >= TOKENS {
-        return wrong(line);
-    }
-    one_text(one_kind(first(line, KIND, d)))
-}
-
-// A number of a list begins.
-fn item(line: Line, d: u32) -> Line {
-    if line.spelled == AFTER_KINDS {
-        if line.kinds >= TOKENS {
-            return wrong(line);
-        }
-        return one_kind(first(line, ITEM, d));
-    }
-    if line.texts >= TOKENS {
-        return wrong(line);
-    }
-    one_text(first(line, ITEM, d))
-}
-
-fn one_kind(mut line: Line) -> Line {
-    line.kinds = std::num::wrapping_add_usize(line.kinds, 1);
-    line
-}
-
-fn one_text(mut line: Line) -> Line {
-    line.texts = std::num::wrapping_add_usize(line.texts, 1);
-    line
-}
-
-// A byte that is neither a blank nor a digit: a dot, or a byte of a word.
-fn mark(line: Line, byte: u8) -> Line {
+// A byte of a word.
+fn letter(line: Line, byte: u8) -> Line
+    ensures { λ r. ⌜ r ≡ forms.onLetter line byte ⌝ }
+{
     let state = line.state;
     match state {
-        KIND => if byte == b'.' {
-            to(line, DOT)
-        } else {
-            wrong(line)
-        },
-        START | WORD | SPACE | BETWEEN => letter(line, byte),
+        START | WORD | SPACE | BETWEEN => spelt(line, byte),
         _ => wrong(line),
     }
 }
 
-fn letter(mut line: Line, byte: u8) -> Line {
+fn spelt(mut line: Line, byte: u8) -> Line
+    ensures { λ r. ⌜ r ≡ forms.speltBy line byte ⌝ }
+{
     let at = line.spelled;
     if at >= AFTER_TEXTS {
         return wrong(line);
@@ -313,18 +403,28 @@ fn letter(mut line: Line, byte: u8) -> Line {
 }
 
 // The number that the line is in goes into its list; a token's text number is 0 until it comes.
-fn store(line: Line, kinds: &mut [u32], texts: &mut [u32]) {
+fn store_kind(line: Line, kinds: &mut [u32])
+    ensures { λ _. ⌜ now (kinds .exit) ≡ kindsWith line (now (kinds .entry)) ⌝ }
+{
     let state = line.state;
     match state {
-        KIND => {
-            put(kinds, line.kinds, line.number);
-            put(texts, line.texts, 0);
-        }
-        TEXT => put(texts, line.texts, line.number),
+        KIND => put(kinds, line.kinds, line.number),
         ITEM => if line.spelled == AFTER_KINDS {
-            put(kinds, line.kinds, line.number);
-        } else {
-            put(texts, line.texts, line.number);
+            put(kinds, line.kinds, line.number)
+        },
+        _ => {}
+    }
+}
+
+fn store_text(line: Line, texts: &mut [u32])
+    ensures { λ _. ⌜ now (texts .exit) ≡ textsWith line (now (texts .entry)) ⌝ }
+{
+    let state = line.state;
+    match state {
+        KIND => put(texts, line.texts, 0),
+        TEXT => put(texts, line.texts, line.number),
+        ITEM => if line.spelled != AFTER_KINDS {
+            put(texts, line.texts, line.number)
         },
         _ => {}
     }

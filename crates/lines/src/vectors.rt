@@ -5,6 +5,9 @@
 //     => R number place W number place
 //
 // Its numbers are told apart, up to the second colon: what is behind that, the writing, is a line of the first form.
+ghost use mathlib.Core.Path.{_≡_};
+ghost use Rattle.lines.specs.Vectors.{noneTold, toldWith};
+ghost use Rattle.lines.specs.Vectors as vectors;
 use crate::number::Longer;
 use crate::number::digit;
 use crate::number::with_digit;
@@ -23,7 +26,9 @@ pub struct Expected {
     pub wrong: bool,
 }
 
-pub fn expecting() -> Expected {
+pub fn expecting() -> Expected
+    ensures { λ r. ⌜ r ≡ noneTold ⌝ }
+{
     Expected {
         number: 0,
         count: 0,
@@ -36,21 +41,25 @@ pub fn expecting() -> Expected {
 }
 
 // Whether the last byte ended a number.
-pub fn has_number(e: Expected) -> bool {
+pub fn has_number(e: Expected) -> bool
+    ensures { λ r. ⌜ r ≡ e .fresh ⌝ }
+{
     e.fresh
 }
 
 // Whether the rest is the writing.
-pub fn has_writing(e: Expected) -> bool {
+pub fn has_writing(e: Expected) -> bool
+    ensures { λ r. ⌜ r ≡ e .closed ⌝ }
+{
     e.closed
 }
 
 // One byte more; a line end ends the last number.
-pub fn told(old: Expected, byte: u8) -> Expected {
-    let mut e = old;
-    e.fresh = false;
+pub fn told(e: Expected, byte: u8) -> Expected
+    ensures { λ r. ⌜ r ≡ toldWith e byte ⌝ }
+{
     if e.closed {
-        return e;
+        return stale(e);
     }
     let d = digit(byte);
     if d < 10 {
@@ -59,11 +68,19 @@ pub fn told(old: Expected, byte: u8) -> Expected {
     separator(ended(e), byte)
 }
 
-fn figure(old: Expected, d: u32) -> Expected {
-    let mut e = old;
-    let before = if e.inside { e.number } else { 0 };
+fn stale(mut e: Expected) -> Expected
+    ensures { λ r. ⌜ r ≡ vectors.stale e ⌝ }
+{
+    e.fresh = false;
+    e
+}
+
+fn figure(mut e: Expected, d: u32) -> Expected
+    ensures { λ r. ⌜ r ≡ vectors.withFigure e d ⌝ }
+{
+    let grown = with_digit(so_far(e), d, u32::MAX);
     e.inside = true;
-    let grown = with_digit(before, d, u32::MAX);
+    e.fresh = false;
     match grown {
         Longer::Number(n) => e.number = n,
         Longer::Over => e.wrong = true,
@@ -71,18 +88,27 @@ fn figure(old: Expected, d: u32) -> Expected {
     e
 }
 
-fn ended(old: Expected) -> Expected {
-    let mut e = old;
-    if e.inside {
-        e.inside = false;
-        e.fresh = true;
+// The number that the answer is in; 0 where one is to begin.
+fn so_far(e: Expected) -> u32
+    ensures { λ r. ⌜ r ≡ vectors.soFar e ⌝ }
+{
+    if e.inside { e.number } else { 0 }
+}
+
+fn ended(mut e: Expected) -> Expected
+    ensures { λ r. ⌜ r ≡ vectors.endedNumber e ⌝ }
+{
+    e.fresh = e.inside;
+    e.inside = false;
+    if e.fresh {
         e.count = std::num::wrapping_add_usize(e.count, 1);
     }
     e
 }
 
-fn separator(old: Expected, byte: u8) -> Expected {
-    let mut e = old;
+fn separator(mut e: Expected, byte: u8) -> Expected
+    ensures { λ r. ⌜ r ≡ vectors.separated e byte ⌝ }
+{
     match byte {
         b':' => {
             e.closed = e.colons == 1;

@@ -1,4 +1,3 @@
--- Made by `proofkit expand` from Proof.tmpl beside it: edit that file.
 -- `report::output::bytes` meets its contract: what is done and what is left make all; the measure is how many bytes are left.
 -- Assumes nothing.
 use Prim.Native.Nat.{_≤_, _-_}

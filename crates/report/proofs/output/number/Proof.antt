@@ -1,4 +1,3 @@
--- Made by `proofkit expand` from Proof.tmpl beside it: edit that file.
 -- `report::output::number` meets its contract: the bytes that `decimal` made of the number are its digits.
 -- Assumes nothing.
 use borrow.Author.Needs.{needs}

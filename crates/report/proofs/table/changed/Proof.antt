@@ -1,4 +1,3 @@
--- Made by `proofkit expand` from Proof.tmpl beside it: edit that file.
 -- `report::table::changed` is safe and ends: the measure is how many numbers are left.
 -- Assumes nothing.
 use Prim.Native.Nat.{_≤_, _-_}

@@ -1,4 +1,3 @@
--- Made by `proofkit expand` from Proof.tmpl beside it: edit that file.
 -- `report::table::clear` is safe and ends: the measure is how many numbers are left; the table keeps its length.
 -- Assumes nothing.
 use mathlib.Core.Path.{_≡_}

@@ -1,0 +1,14 @@
+-- `lines::out_texts` meets its contract: its one test is that of `isRoom`.
+-- Assumes nothing.
+use borrow.Author.Tests.{lt-ltb, le-ltb}
+use Rattle.lines.proofs.out_texts.Statement.{statement}
+use Rattle.lines.proofs.out_texts.Tie as tie
+
+returns : tie.Need-returns
+returns c = simp (lt-ltb _ _ (c .if1 .taken))
+
+returns-2 : tie.Need-returns-2
+returns-2 c = simp (le-ltb _ _ (c .if1 .left))
+
+pub out-texts-spec : {M : Type 1} → statement M
+out-texts-spec = tie.close (tie.spec returns returns-2)
