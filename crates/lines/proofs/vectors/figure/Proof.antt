@@ -8,8 +8,6 @@ use Rattle.lines.specs.Vectors.{toldLonger}
 use borrow.Author.Needs.{needs}
 use Rattle.lines.proofs.vectors.figure.Statement.{statement}
 use Rattle.lines.proofs.vectors.figure.Tie as tie
-use Rattle.lines.proofs.vectors.figure.Reads as reads
-use Rattle.lines.proofs.vectors.figure.Lts as lts
 
 so-far-requires : tie.Need-so-far-requires
 so-far-requires c κs = search needs
