@@ -9,7 +9,7 @@ use Rattle.lines.specs.declared.Line.{Line}
 use Rattle.lines.specs.declared.vectors.Expected.{Expected}
 use Rattle.lines.specs.declared.number.Longer.{Longer}
 use Rattle.lines.specs.Numbers.{digitOf, withDigit}
-use Rattle.lines.specs.Forms.{TOKENS, wrongLine, newKinds, newTexts, entered, begun, most, longer, grown, digitTo, onDigit, onLetter, onByte}
+use Rattle.lines.specs.Forms.{TOKENS, wrongLine, newKinds, newTexts, inNumber, entered, most, longer, grown, digitTo, onDigit, onLetter, onByte}
 use Rattle.lines.specs.Vectors.{withFigure, endedNumber, separated, toldWith}
 
 -- ── a byte that is neither a blank nor a dot ──
@@ -30,19 +30,19 @@ if-false b x y e = rw e
 
 module _ (l : Line) (d s : ℕ) where
   abbrev inside : Line
-  inside = cond (eqb s (l .state)) l (begun s l)
+  inside = cond (eqb s (l .state)) l (entered s l)
 
   pub digit-nowhere : s ≡ 0 → wrongLine l ≡ digitTo s l d
   digit-nowhere e = if-true (eqb s 0) (wrongLine l) (grown inside d) (eq-eqb s 0 e)
 
   pub digit-on : (s ≡ 0 → ⊥) → s ≡ l .state → grown l d ≡ digitTo s l d
   digit-on n e =
-      ap (λ (x : Line). grown x d) (if-true (eqb s (l .state)) l (begun s l) (eq-eqb s (l .state) e))
+      ap (λ (x : Line). grown x d) (if-true (eqb s (l .state)) l (entered s l) (eq-eqb s (l .state) e))
       ∙ if-false (eqb s 0) (wrongLine l) (grown inside d) (ne-eqb s 0 n)
 
-  pub digit-first : (s ≡ 0 → ⊥) → (s ≡ l .state → ⊥) → grown (begun s l) d ≡ digitTo s l d
+  pub digit-first : (s ≡ 0 → ⊥) → (s ≡ l .state → ⊥) → grown (entered s l) d ≡ digitTo s l d
   digit-first n m =
-      ap (λ (x : Line). grown x d) (if-false (eqb s (l .state)) l (begun s l) (ne-eqb s (l .state) m))
+      ap (λ (x : Line). grown x d) (if-false (eqb s (l .state)) l (entered s l) (ne-eqb s (l .state) m))
       ∙ if-false (eqb s 0) (wrongLine l) (grown inside d) (ne-eqb s 0 n)
 
 -- ── a digit more ──
@@ -56,13 +56,13 @@ module _ (s : ℕ) (l : Line) (k t : ℕ) (e : k ≡ newKinds s (l .spelled)) (f
   kinds-room : l .kinds + k ≤ TOKENS → leb (l .kinds + newKinds s (l .spelled)) TOKENS ≡ true
   kinds-room h = le-leb _ _ (subst (λ (n : ℕ). l .kinds + n ≤ TOKENS) e h)
 
-  pub kinds-full : TOKENS < l .kinds + k → wrongLine l ≡ begun s l
+  pub kinds-full : TOKENS < l .kinds + k → wrongLine l ≡ entered s l
   kinds-full h = rw (lt-leb _ _ (subst (λ (n : ℕ). TOKENS < l .kinds + n) e h))
 
-  pub texts-full : l .kinds + k ≤ TOKENS → TOKENS < l .texts + t → wrongLine l ≡ begun s l
+  pub texts-full : l .kinds + k ≤ TOKENS → TOKENS < l .texts + t → wrongLine l ≡ entered s l
   texts-full g h = rw (kinds-room g, lt-leb _ _ (subst (λ (n : ℕ). TOKENS < l .texts + n) f h))
 
-  pub both-room : l .kinds + k ≤ TOKENS → l .texts + t ≤ TOKENS → entered s l ≡ begun s l
+  pub both-room : l .kinds + k ≤ TOKENS → l .texts + t ≤ TOKENS → inNumber s l ≡ entered s l
   both-room g h = rw (kinds-room g, le-leb _ _ (subst (λ (n : ℕ). l .texts + n ≤ TOKENS) f h))
 
 -- ── vectors: a byte before the second colon ──

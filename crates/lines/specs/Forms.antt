@@ -119,8 +119,8 @@ abbrev pub newTexts : ℕ → ℕ → ℕ
 newTexts s spelled = cond (eqb s KIND || ofTexts s spelled) 1 0
 
 -- a number begins, in state s
-abbrev pub entered : ℕ → Line → Line
-entered s l =
+abbrev pub inNumber : ℕ → Line → Line
+inNumber s l =
     record {
       state = s;
       spelled = l .spelled;
@@ -137,8 +137,8 @@ entered s l =
 abbrev pub hasRoom : ℕ → Line → Bool
 hasRoom s l = leb (l .kinds + newKinds s (l .spelled)) TOKENS && leb (l .texts + newTexts s (l .spelled)) TOKENS
 
-abbrev pub begun : ℕ → Line → Line
-begun s l = cond (hasRoom s l) (entered s l) (wrongLine l)
+abbrev pub entered : ℕ → Line → Line
+entered s l = cond (hasRoom s l) (inNumber s l) (wrongLine l)
 
 -- the largest that the number may be that the line is in
 abbrev pub most : Line → ℕ
@@ -201,7 +201,7 @@ onDot l = atState (along dotWays (l .state)) l
 
 -- a digit that takes a line to state s: the first of a number that begins, or one more where the line is there already
 abbrev pub digitTo : ℕ → Line → ℕ → Line
-digitTo s l d = cond (eqb s WRONG) (wrongLine l) (grown (cond (eqb s (l .state)) l (begun s l)) d)
+digitTo s l d = cond (eqb s WRONG) (wrongLine l) (grown (cond (eqb s (l .state)) l (entered s l)) d)
 
 abbrev pub onDigit : Line → ℕ → Line
 onDigit l d = digitTo (along digitWays (l .state)) l d

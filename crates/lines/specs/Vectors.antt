@@ -42,14 +42,14 @@ abbrev pub soFar : Expected → ℕ
 soFar e = cond (e .inside) (e .number) 0
 
 -- a digit: the number is n now, or too large
-abbrev pub told-more : Longer → Expected → Expected
-told-more (Number n) e =
+abbrev pub toldLonger : Longer → Expected → Expected
+toldLonger (Number n) e =
     record { number = n; count = e .count; inside = true; fresh = false; colons = e .colons; closed = e .closed; wrong = e .wrong }
-told-more Over e =
+toldLonger Over e =
     record { number = e .number; count = e .count; inside = true; fresh = false; colons = e .colons; closed = e .closed; wrong = true }
 
 abbrev pub withFigure : Expected → ℕ → Expected
-withFigure e d = told-more (withDigit (soFar e) d U32-MAX) e
+withFigure e d = toldLonger (withDigit (soFar e) d U32-MAX) e
 
 -- any other byte ends the number that the answer is in
 abbrev pub endedNumber : Expected → Expected

@@ -280,7 +280,7 @@ fn figure(line: Line, d: u32) -> Line
 
 // A number begins, and is an entry more of the lists that it is in.
 fn entered(mut line: Line, state: u8) -> Line
-    ensures { λ r. ⌜ r ≡ forms.begun state line ⌝ }
+    ensures { λ r. ⌜ r ≡ forms.entered state line ⌝ }
 {
     let k = new_kinds(state, line.spelled);
     let t = new_texts(state, line.spelled);

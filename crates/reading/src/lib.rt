@@ -2,6 +2,9 @@
 mod places;
 mod writing;
 
+ghost use mathlib.Core.Path.{_≡_};
+ghost use Rattle.report.specs.Tables.{Cleared};
+ghost use Rattle.reading.specs.Readings.{noReading, Told, Left, ReadIn, OfLine, toClear};
 use lines::Line;
 pub use places::PLACES;
 pub use places::put;
@@ -23,7 +26,9 @@ pub struct Reading {
 }
 
 // No reading yet.
-pub fn none() -> Reading {
+pub fn none() -> Reading
+    ensures { λ r. ⌜ r ≡ noReading ⌝ }
+{
     Reading {
         number: 0,
         place: 0,
@@ -34,14 +39,18 @@ pub fn none() -> Reading {
 }
 
 // The answer, and what was left in the table.
-pub fn left(got: Answer, nodes: &[u32]) -> Reading {
+pub fn left(got: Answer, nodes: &[u32]) -> Reading
+    ensures { λ r. ⌜ Left got (now (nodes .entry)) r ⌝ }
+{
     match got {
         Answer::Accepted(count) => beyond(0, count, nodes, report::numbers(nodes, count)),
         Answer::Refused(n, place) => beyond(n, place, nodes, 0),
     }
 }
 
-fn beyond(number: u32, place: usize, nodes: &[u32], used: usize) -> Reading {
+fn beyond(number: u32, place: usize, nodes: &[u32], used: usize) -> Reading
+    ensures { λ r. ⌜ Told number place used (now (nodes .entry)) r ⌝ }
+{
     let changed = report::changed(nodes, used);
     Reading {
         number,
@@ -52,13 +61,17 @@ fn beyond(number: u32, place: usize, nodes: &[u32], used: usize) -> Reading {
     }
 }
 
-fn read<'a>(kinds: &'a [u32], texts: &'a [u32], nodes: &mut [u32]) -> Reading {
+fn read<'a>(kinds: &'a [u32], texts: &'a [u32], nodes: &mut [u32]) -> Reading
+    ensures { λ r. ⌜ ReadIn (now (kinds .entry)) (now (texts .entry)) (now (nodes .entry)) (now (nodes .exit)) r ⌝ }
+{
     let got = reader::read(kinds, texts, nodes);
     left(got, nodes)
 }
 
 // The command of a line, from the lists that it was taken into, with as much of the table as it asks for.
-pub fn of_line<'a>(line: Line, kinds: &'a [u32], texts: &'a [u32], nodes: &mut [u32]) -> Reading {
+pub fn of_line<'a>(line: Line, kinds: &'a [u32], texts: &'a [u32], nodes: &mut [u32]) -> Reading
+    ensures { λ r. ⌜ OfLine line (now (kinds .entry)) (now (texts .entry)) (now (nodes .entry)) (now (nodes .exit)) r ⌝ }
+{
     let k = report::within(line.kinds, kinds);
     let t = report::within(line.texts, texts);
     let n = report::within(lines::table(line) as usize, nodes);
@@ -66,7 +79,9 @@ pub fn of_line<'a>(line: Line, kinds: &'a [u32], texts: &'a [u32], nodes: &mut [
 }
 
 // Clears a table after a reading.
-pub fn clear(r: Reading, nodes: &mut [u32]) {
+pub fn clear(r: Reading, nodes: &mut [u32])
+    ensures { λ _. ⌜ Cleared (now (nodes .entry)) (toClear r (now (nodes .entry))) (now (nodes .exit)) ⌝ }
+{
     if r.kept {
         report::clear(nodes, r.used);
     } else {

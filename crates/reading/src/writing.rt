@@ -1,4 +1,5 @@
 // A writing as the programs see it: what the writer says, and what it leaves in two lists that were clear.
+ghost use Rattle.reading.specs.Writings.{Tells, LeftIn, Written};
 use lines::Line;
 use reader::Answer;
 
@@ -13,7 +14,9 @@ pub struct Writing {
 }
 
 // The answer, and what was left in the lists.
-fn left<'a>(got: Answer, out_kinds: &'a [u32], out_texts: &'a [u32]) -> Writing {
+fn left<'a>(got: Answer, out_kinds: &'a [u32], out_texts: &'a [u32]) -> Writing
+    ensures { λ r. ⌜ LeftIn got (now («out_kinds» .entry)) (now («out_texts» .entry)) r ⌝ }
+{
     match got {
         Answer::Accepted(count) => beyond(0, count, count, out_kinds, out_texts),
         Answer::Refused(n, place) => beyond(n, place, 0, out_kinds, out_texts),
@@ -26,7 +29,9 @@ fn beyond<'a>(
     used: usize,
     out_kinds: &'a [u32],
     out_texts: &'a [u32],
-) -> Writing {
+) -> Writing
+    ensures { λ r. ⌜ Tells number place used (now («out_kinds» .entry)) (now («out_texts» .entry)) r ⌝ }
+{
     let k = report::changed(out_kinds, used);
     let t = report::changed(out_texts, used);
     Writing {
@@ -46,7 +51,9 @@ pub fn written<'a>(
     nodes: &mut [u32],
     out_kinds: &mut [u32],
     out_texts: &mut [u32],
-) -> Writing {
+) -> Writing
+    ensures { λ r. ⌜ Written line (now (kinds .entry)) (now (texts .entry)) (now (nodes .entry)) (now («out_kinds» .entry)) (now («out_texts» .entry)) (now (nodes .exit)) (now («out_kinds» .exit)) (now («out_texts» .exit)) r ⌝ }
+{
     let k = report::within(line.kinds, kinds);
     let t = report::within(line.texts, texts);
     let n = report::within(lines::table(line) as usize, nodes);

@@ -3,8 +3,6 @@
 use borrow.Author.Needs.{needs}
 use Rattle.lines.proofs.vectors.ended.Statement.{statement}
 use Rattle.lines.proofs.vectors.ended.Tie as tie
-use Rattle.lines.proofs.vectors.ended.Reads as reads
-use Rattle.lines.proofs.vectors.ended.Lts as lts
 
 wrapping-add-usize-requires : tie.Need-wrapping-add-usize-requires
 wrapping-add-usize-requires c κs = search needs

@@ -8,8 +8,6 @@ use Rattle.lines.specs.Vectors.{separators}
 use Rattle.lines.proofs.Ways.{is-among, not-among, apart-of, any-of, not-of}
 use Rattle.lines.proofs.vectors.separator.Statement.{statement}
 use Rattle.lines.proofs.vectors.separator.Tie as tie
-use Rattle.lines.proofs.vectors.separator.Reads as reads
-use Rattle.lines.proofs.vectors.separator.Lts as lts
 
 returns : tie.Need-returns
 returns c = rw (c .before .match .keys1)

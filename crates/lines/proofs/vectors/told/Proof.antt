@@ -7,8 +7,6 @@ use Rattle.lines.specs.declared.vectors.Expected.{Expected}
 use borrow.Author.Needs.{needs}
 use Rattle.lines.proofs.vectors.told.Statement.{statement}
 use Rattle.lines.proofs.vectors.told.Tie as tie
-use Rattle.lines.proofs.vectors.told.Reads as reads
-use Rattle.lines.proofs.vectors.told.Lts as lts
 
 stale-requires : tie.Need-stale-requires
 stale-requires c κs = search needs
