@@ -1,4 +1,5 @@
 // A reading drawn as a tree: a record a line, below the one whose child it is; absent ones are left out.
+use reading::WIDTH;
 use report::BLOCK;
 use report::byte;
 use report::bytes;
@@ -19,7 +20,7 @@ const SIZE: u8 = 3;
 
 // A number of a record, 0 beyond the table.
 fn number(nodes: &[u32], record: u32, which: u8) -> u32 {
-    let at = record as usize * 4 + which as usize;
+    let at = record as usize * WIDTH + which as usize;
     if at < nodes.len() { nodes[at] } else { 0 }
 }
 

@@ -24,6 +24,14 @@ abbrev pub noneTold : Expected
 noneTold =
     record { number = 0; count = 0; inside = false; fresh = false; colons = 0; closed = false; wrong = false }
 
+-- the last byte ended a number
+abbrev pub hasNumber : Expected → Bool
+hasNumber e = e .fresh
+
+-- the rest is the writing
+abbrev pub hasWriting : Expected → Bool
+hasWriting e = e .closed
+
 -- behind the second colon nothing is told
 abbrev pub stale : Expected → Expected
 stale e =

@@ -6,7 +6,7 @@
 //
 // Its numbers are told apart, up to the second colon: what is behind that, the writing, is a line of the first form.
 ghost use mathlib.Core.Path.{_≡_};
-ghost use Rattle.lines.specs.Vectors.{noneTold, toldWith};
+ghost use Rattle.lines.specs.Vectors.{hasNumber, hasWriting, noneTold, toldWith};
 ghost use Rattle.lines.specs.Vectors as vectors;
 use crate::number::Longer;
 use crate::number::digit;
@@ -42,14 +42,14 @@ pub fn expecting() -> Expected
 
 // Whether the last byte ended a number.
 pub fn has_number(e: Expected) -> bool
-    ensures { λ r. ⌜ r ≡ e .fresh ⌝ }
+    ensures { λ r. ⌜ r ≡ hasNumber e ⌝ }
 {
     e.fresh
 }
 
 // Whether the rest is the writing.
 pub fn has_writing(e: Expected) -> bool
-    ensures { λ r. ⌜ r ≡ e .closed ⌝ }
+    ensures { λ r. ⌜ r ≡ hasWriting e ⌝ }
 {
     e.closed
 }

@@ -8,10 +8,9 @@ use Rattle.grammar.specs.Promise.{Reads, Writes}
 use Rattle.reader.specs.Answers.{number, place, Few, Plain}
 use Rattle.reader.specs.declared.Answer.{Answer}
 use Rattle.reader.specs.declared.Answer.the-variants as answer
-use Rattle.report.specs.Tables.{numbersOf}
 use Rattle.reading.specs.declared.Reading.{Reading}
 use Rattle.reading.specs.declared.writing.Writing.{Writing}
-use Rattle.reading.specs.Readings.{Told, Left, ReadIn}
+use Rattle.reading.specs.Readings.{numbersOf, Told, Left, ReadIn}
 use Rattle.reading.specs.Writings.{Tells, LeftIn}
 
 -- ── the reader's ──

@@ -1,21 +1,26 @@
 -- A reading as the programs see it: the reader's answer, and what it leaves in a node table.
-use Prim.Native.Nat.{ℕ}
+use Prim.Native.Nat.{ℕ, _*_, _/_, min}
 use mathlib.Core.Bool.{true, cond}
 use mathlib.Core.List.{List}
 use mathlib.Core.Path.{_≡_}
 use lib.Dec.{eqb}
 use lib.ListN.{length, take, drop}
+use Rattle.grammar.specs.Sizes.{WIDTH}
 use Rattle.grammar.specs.Promise.{Reads}
 use Rattle.reader.specs.Answers.{number, place, Few, Plain}
 use Rattle.reader.specs.declared.Answer.{Answer}
 use Rattle.reader.specs.declared.Answer.the-variants as answer
-use Rattle.report.specs.Tables.{numbersOf, FirstChanged}
+use Rattle.report.specs.Tables.{FirstChanged}
 use Rattle.lines.specs.declared.Line.{Line}
 use Rattle.lines.specs.Forms.{tableOf}
 use Rattle.reading.specs.declared.Reading.{Reading}
 
 abbrev pub noReading : Reading
 noReading = record { number = 0; place = 0; used = 0; kept = true; changed = 0 }
+
+-- how many numbers `count` records have, of those that the table holds
+abbrev pub numbersOf : List ℕ → ℕ → ℕ
+numbersOf N count = min count (length N / WIDTH) * WIDTH
 
 -- how many numbers of the table are records
 abbrev pub usedBy : Answer → List ℕ → ℕ

@@ -4,13 +4,14 @@ mod writing;
 
 ghost use mathlib.Core.Path.{_≡_};
 ghost use Rattle.report.specs.Tables.{Cleared};
-ghost use Rattle.reading.specs.Readings.{noReading, Told, Left, ReadIn, OfLine, toClear};
+ghost use Rattle.reading.specs.Readings.{noReading, numbersOf, Told, Left, ReadIn, OfLine, toClear};
 use lines::Line;
 pub use places::PLACES;
 pub use places::put;
 pub use places::read_places;
 pub use places::write_places;
 use reader::Answer;
+pub use reader::WIDTH;
 pub use writing::Writing;
 pub use writing::written;
 
@@ -43,9 +44,16 @@ pub fn left(got: Answer, nodes: &[u32]) -> Reading
     ensures { λ r. ⌜ Left got (now (nodes .entry)) r ⌝ }
 {
     match got {
-        Answer::Accepted(count) => beyond(0, count, nodes, report::numbers(nodes, count)),
+        Answer::Accepted(count) => beyond(0, count, nodes, numbers(nodes, count)),
         Answer::Refused(n, place) => beyond(n, place, nodes, 0),
     }
+}
+
+// How many numbers `count` records have, of those that the table holds.
+fn numbers(nodes: &[u32], count: usize) -> usize
+    ensures { λ r. ⌜ r ≡ numbersOf (now (nodes .entry)) count ⌝ }
+{
+    report::least(count, nodes.len() / WIDTH) * WIDTH
 }
 
 fn beyond(number: u32, place: usize, nodes: &[u32], used: usize) -> Reading

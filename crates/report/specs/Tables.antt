@@ -1,12 +1,8 @@
 -- What is clear in a node table, and what is not.
-use Prim.Native.Nat.{ℕ, _*_, _/_, _≤_, _<_, min}
+use Prim.Native.Nat.{ℕ, _≤_, _<_}
 use mathlib.Core.Path.{_≡_}
 use mathlib.Core.List.{List}
 use lib.ListN.{length, getD}
-
--- how many numbers `count` records have, of those that the table holds
-abbrev pub numbersOf : List ℕ → ℕ → ℕ
-numbersOf nodes count = min count (length nodes / 4) * 4
 
 -- the table with its first `count` numbers clear, and the others as they were
 pub record Cleared (nodes : List ℕ) (count : ℕ) (after : List ℕ) : Type 0 where

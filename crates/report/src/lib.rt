@@ -16,7 +16,6 @@ pub use output::number;
 pub use table::changed;
 pub use table::clear;
 pub use table::digest;
-pub use table::numbers;
 
 const MODULUS: u64 = 4294967296;
 

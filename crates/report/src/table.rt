@@ -3,18 +3,10 @@ ghost use mathlib.Core.Path.{_≡_};
 ghost use mathlib.Core.Bool.{true};
 ghost use lib.ListN.{length, take};
 ghost use Rattle.report.specs.Digests.{digestOf};
-ghost use Rattle.report.specs.Tables.{numbersOf, Cleared, ClearBelow, FirstChanged};
-use crate::least;
+ghost use Rattle.report.specs.Tables.{Cleared, ClearBelow, FirstChanged};
 use crate::mixed;
 use crate::wide;
 use crate::within;
-
-// How many numbers `count` records have, of those that the table holds.
-pub fn numbers(nodes: &[u32], count: usize) -> usize
-    ensures { λ r. ⌜ r ≡ numbersOf (now (nodes .entry)) count ⌝ }
-{
-    least(count, nodes.len() / 4) * 4
-}
 
 // Clears the first `count` numbers.
 pub fn clear(nodes: &mut [u32], count: usize)
