@@ -7,12 +7,13 @@ use mathlib.Core.Bool.{Bool, cond, not, _&&_, _||_}
 use mathlib.Core.List.{List, [], _∷_}
 use lib.Dec.{eqb, ltb, leb}
 use lib.ListN.{length, getD}
+use Rattle.kinds.specs.Lists.{among}
 use Rattle.lines.specs.declared.Line.{Line}
 use Rattle.lines.specs.declared.number.Longer.{Longer}
 use Rattle.lines.specs.declared.number.Longer.the-variants.{Number, Over}
 use Rattle.lines.specs.Numbers.{digitOf, withDigit, lastSet, U32-MAX}
 use Rattle.lines.specs.Bytes.{bytesOf, BLANK-BYTE, DOT-BYTE, EQUALS-BYTE, COLON-BYTE}
-use Rattle.lines.specs.States.{WRONG, START, GAP, KIND, DOT, TEXT, WORD, EQUALS, SIZE, SPACE, COLON, BETWEEN, ITEM, among, along, blankWays, dotWays, digitWays, beforeLetter}
+use Rattle.lines.specs.States.{WRONG, START, GAP, KIND, DOT, TEXT, WORD, EQUALS, SIZE, SPACE, COLON, BETWEEN, ITEM, along, blankWays, dotWays, digitWays, beforeLetter}
 
 -- the most tokens of a line, and the longest output and node table that it may ask for
 abbrev pub TOKENS : ℕ

@@ -1,8 +1,7 @@
 -- Where a line stands, and where a byte takes it from there.
 use Prim.Native.Nat.{ℕ}
-use mathlib.Core.Bool.{Bool, false, _||_, cond}
 use mathlib.Core.List.{List, [], _∷_}
-use lib.Dec.{eqb}
+use Rattle.kinds.specs.Lists.{Line, _for_, numberOf}
 
 -- a byte did not fit
 abbrev pub WRONG : ℕ
@@ -56,40 +55,29 @@ BETWEEN = 11
 abbrev pub ITEM : ℕ
 ITEM = 12
 
--- whether a number stands in a list
-abbrev pub among : ℕ → List ℕ → Bool
-among n [] = false
-among n (a ∷ others) = eqb n a || among n others
-
-infix 40 _from_
--- the state that a byte takes a line to, and those from which it does
-pub data Way : Type 0 where
-  _from_ : ℕ → List ℕ → Way
-
--- where these ways take a line; no way is wrong
-abbrev pub along : List Way → ℕ → ℕ
-along [] s = WRONG
-along ((t from ss) ∷ ways) s = cond (among s ss) t (along ways s)
+-- where the ways of a byte take a line: the state for the states from which it does; no way is wrong
+abbrev pub along : List Line → ℕ → ℕ
+along ways s = numberOf s ways
 
 -- a blank ends a number; it may stand before, between and after numbers and words
-abbrev pub blankWays : List Way
+abbrev pub blankWays : List Line
 blankWays =
-    (START from (START ∷ [])) ∷
-    (GAP from (GAP ∷ KIND ∷ TEXT ∷ [])) ∷
-    (SPACE from (SPACE ∷ SIZE ∷ [])) ∷
-    (BETWEEN from (BETWEEN ∷ COLON ∷ ITEM ∷ [])) ∷ []
+    (START for (START ∷ [])) ∷
+    (GAP for (GAP ∷ KIND ∷ TEXT ∷ [])) ∷
+    (SPACE for (SPACE ∷ SIZE ∷ [])) ∷
+    (BETWEEN for (BETWEEN ∷ COLON ∷ ITEM ∷ [])) ∷ []
 
 -- a dot stands between a kind and its text number
-abbrev pub dotWays : List Way
-dotWays = (DOT from (KIND ∷ [])) ∷ []
+abbrev pub dotWays : List Line
+dotWays = (DOT for (KIND ∷ [])) ∷ []
 
 -- a digit begins a number, or stands in one
-abbrev pub digitWays : List Way
+abbrev pub digitWays : List Line
 digitWays =
-    (KIND from (START ∷ GAP ∷ KIND ∷ [])) ∷
-    (TEXT from (DOT ∷ TEXT ∷ [])) ∷
-    (SIZE from (EQUALS ∷ SIZE ∷ [])) ∷
-    (ITEM from (BETWEEN ∷ ITEM ∷ [])) ∷ []
+    (KIND for (START ∷ GAP ∷ KIND ∷ [])) ∷
+    (TEXT for (DOT ∷ TEXT ∷ [])) ∷
+    (SIZE for (EQUALS ∷ SIZE ∷ [])) ∷
+    (ITEM for (BETWEEN ∷ ITEM ∷ [])) ∷ []
 
 -- a word begins a line, or follows a size or a list
 abbrev pub beforeLetter : List ℕ

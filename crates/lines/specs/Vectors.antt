@@ -9,12 +9,12 @@ use Prim.Native.Nat.{ℕ, _+_, _%_, _^_}
 use mathlib.Core.Bool.{Bool, true, false, cond}
 use mathlib.Core.List.{List}
 use lib.Dec.{eqb, ltb}
+use Rattle.kinds.specs.Lists.{among}
 use Rattle.lines.specs.declared.vectors.Expected.{Expected}
 use Rattle.lines.specs.declared.number.Longer.{Longer}
 use Rattle.lines.specs.declared.number.Longer.the-variants.{Number, Over}
 use Rattle.lines.specs.Numbers.{digitOf, withDigit, U32-MAX}
 use Rattle.lines.specs.Bytes.{bytesOf, COLON-BYTE}
-use Rattle.lines.specs.States.{among}
 
 -- what may stand between numbers, the line's end with them
 abbrev pub separators : List ℕ
