@@ -100,11 +100,11 @@ class Reader:
             return 2, self.take()
         return 0, ABSENT
 
-    # ── expressions; self.h is the crate's height of the last one
+    # ── expressions; self.h is the crate's height of the last one, self.left the strongest operator that may go on from it
 
     def starts(self, least):
         k = self.k[self.i]
-        return k in STARTS or (k == NOT and (least <= 3 or self.may("not"))) or self.id_at(self.i)
+        return k in STARTS or (k == NOT and (least <= 10 or self.may("not"))) or self.id_at(self.i)
 
     def level(self, least):
         """A level begins: in document 01 only where an expression can start."""
@@ -133,9 +133,10 @@ class Reader:
             if s > bound and not self.may("postfix"):
                 break
             got, height = self.operator(got, s, height)
-            bound = s
+            bound = min(s, self.left)
             self.tall(height)
         self.h = height
+        self.left = bound
         self.depth -= 1
         return got
 
@@ -177,6 +178,8 @@ class Reader:
             got = (39, 137 if other else IS, (left, self.expr(5)))
         else:
             got = (39, k, (left, self.expr(s + 1)))
+        if got[0] not in (39, 43):
+            self.left = 12  # nothing to its right
         return got, 1 if leaf else 1 + max(height, self.h)
 
     def inside(self, left, negated):
@@ -262,11 +265,11 @@ class Reader:
         if k == NOT:
             got = (38, NOT, (self.expr(3),))
             self.h += 1
-            return got, 3
+            return got, min(3, self.left)
         if k in (PLUS, MINUS, BITNOT):
             got = (38, k, (self.expr(11),))
             self.h += 1
-            return got, 11
+            return got, min(11, self.left)
         if k == EXISTS:
             self.eat(LP)
             got = (35, 0, (self.query(),))

@@ -1,5 +1,5 @@
 -- Demand 3 of the two calls. writes-equal: two commands that were written mean the same exactly when the outputs are equal token for token.
--- writes-canonical: an output of at most 4,096 tokens is accepted, keeps the meaning and is its own writing. Assumes nothing.
+-- writes-canonical: an output of at most 4,096 tokens and 64 levels is accepted, keeps the meaning and is its own writing. Assumes nothing.
 use mathlib.Core.List.{List, [], _∷_, _++_}
 use mathlib.Core.Path.{_≡_, refl, sym, ap, _∙_, subst}
 use Prim.Native.Nat.{ℕ, _≤_}
@@ -13,7 +13,7 @@ use Rattle.grammar.specs.Meaning.{meaning}
 use Rattle.grammar.specs.Promise.{tokens, Accepted, recordsOf, Room, accepted, refusal-9, writingOf, put, kindsOf, textsOf, Writes, written, refusal-1w, refusal-2-to-9, refusal-10}
 use Rattle.grammar.proofs.Promised.{one-reading, one-writing}
 use Rattle.grammar.proofs.SamplesHold.{tokens-back, length-kinds, length-texts}
-use Rattle.canon.specs.Promise.{SameWriting}
+use Rattle.canon.specs.Promise.{Shallow, SameWriting}
 use Rattle.canon.specs.Calls.{Means, MeanTheSame, EqualTokens, SameMeaningEqualOutputs, ReadAccepts, CanonicalOutput}
 use Rattle.canon.proofs.Canonical.{one-tree, canonical, equal-writings}
 
@@ -96,12 +96,12 @@ pub write-accepts : {K T N A B : List ℕ} {m p : ℕ} {N' A' B' : List ℕ} {x 
 write-accepts {K} {T} {N} {A} {B} {x = x} a r e h w = one-writing K T N A B w (written x e a r h refl refl refl refl refl) .0
 
 -- ── a call to an output ──
-pub writes-canonical : {K T N A B : List ℕ} {p : ℕ} {N' A' B' : List ℕ} → Writes K T N A B 0 p N' A' B' → p ≤ TOKENS → CanonicalOutput K T p A' B'
-writes-canonical {K} {T} {p = p} {A' = A'} {B' = B'} w short =
+pub writes-canonical : {K T N A B : List ℕ} {p : ℕ} {N' A' B' : List ℕ} → Writes K T N A B 0 p N' A' B' → p ≤ TOKENS → Shallow (tokens (take p A') (take p B')) → CanonicalOutput K T p A' B'
+writes-canonical {K} {T} {p = p} {A' = A'} {B' = B'} w short shallow =
     let o = output w refl in
     let x = o .tree in
     let n = o .counted in
-    let c = canonical (record { accepted = o .taken; short = subst (λ z. z ≤ TOKENS) n short }) in
+    let c = canonical (record { accepted = o .taken; short = subst (λ z. z ≤ TOKENS) n short; shallow = subst Shallow (ap (λ z. tokens z (take p B')) (o .kinds) ∙ ap (tokens (kindsOf (writingOf x))) (o .texts) ∙ tokens-back (writingOf x)) shallow }) in
     let again : Accepted (take p A') (take p B') (c .tree) = subst (λ z. Accepted z (take p B') (c .tree)) (sym (o .kinds)) (subst (λ z. Accepted (kindsOf (writingOf x)) z (c .tree)) (sym (o .texts)) (c .accepted)) in
     let same : MeanTheSame K T (take p A') (take p B')
     = (meaning (reading x), record { tree = x; accepted = o .taken; meant = refl }, record { tree = c .tree; accepted = again; meant = c .meaning }) in

@@ -15,20 +15,21 @@ use Rattle.theory.proofs.Cases.{by-bool, 0≢1, leb-le, le-leb}
 use Rattle.theory.proofs.Tested.{asked-some}
 use Rattle.kinds.specs.Kinds.{ID, KWID, INDEXED, JOIN-KW}
 use Rattle.kinds.specs.Classes.{names}
-use Rattle.grammar.specs.Classes.{Expr, Paren, Column, Inside?, ColRest?, ColDots?, Base?, Args?, NameRest?, Dots?, any}
+use Rattle.grammar.specs.Classes.{Expr, Paren, Column, Inside?, ColRest?, ColDots?, Base?, Args?, NameRest?, Dots?, any, IsRight}
 use Rattle.grammar.specs.RowNames.{row-names}
-use Rattle.grammar.specs.Rows.{strong, butColumn, exprs, selectItems, valuesItems, lines, headsOf, tailsOf}
+use Rattle.grammar.specs.Rows.{strong, butColumn, butIs, exprs, selectItems, valuesItems, lines, headsOf, tailsOf}
 use Rattle.grammar.specs.Grammar.{sql, G}
-use Rattle.grammar.specs.Limits.{Around, below, begun, judge}
+use Rattle.grammar.specs.Limits.{Around, begun, judge}
 use Rattle.grammar.specs.Reading.{Val, empty, one, says, choose, NAME-STAR, valueOf, value, values}
 use Rattle.grammar.specs.Meaning.{meaning}
 use Rattle.grammar.specs.Writing.{Piece, at, forms}
 use Rattle.grammar.specs.Promise.{AllFit}
+use Rattle.canon.proofs.Counted.{below, deeper}
 use Rattle.canon.proofs.Folds.{P}
 use Rattle.canon.proofs.Says.{Rests, NameRests}
-use Rattle.canon.proofs.Forms.{Clean, deeper, Stands, here, ColForm, Pack, Form, reach, Core, Result, core, plain, grow}
+use Rattle.canon.proofs.Forms.{Clean, as-tight, Stands, here, ColForm, Pack, Form, reach, Core, Result, core, plain, grow}
 use Rattle.canon.proofs.Places.{_also_, AllOf, by-mem}
-use Rattle.canon.proofs.Place.{reach-any, place}
+use Rattle.canon.proofs.Place.{reach-any, place, le-trans}
 use Rattle.canon.proofs.Asks.{asks}
 use Rattle.canon.proofs.Rebuild.{stands-part, clean-any}
 use Rattle.canon.proofs.Steps.{HeadStep, begins-zero, only-class, reach-expr, open-tests}
@@ -83,13 +84,13 @@ name-form B D c t N e b v s K p h =
       y = firstName B u (K .z);
       q = namesRow B;
       ok = first-ok B D u e (K .stands);
-      strong = sym (g .str) ∙ ap (λ z. z .str) same-p;
+      strong = rw (ap (λ z. z .str) (sym same-p) ∙ g .str) refl;
       writes = first-toks B u (K .z) ∙ (g .toks ∙ ap (λ z. z .toks) same-p);
       same = g .same ∙ ap (λ z. meaning (z .nodes)) (sym fv);
       untold = rw fv refl;
       num = ap (λ z. z .num) fv ∙ g .wnum;
       clean = first-clean B c u (K .stands) b (K .clean);
-      cap = first-cap B u (K .z) (K .cap);
+      cap = rw (ap (λ z. z .str) (sym same-p) ∙ g .str) (le-trans 12 99 (capOf (firstName B u (K .z))) refl (first-cap B u (K .z) (K .cap)));
       fit = (N .fit, K .fit);
     }
 
@@ -107,8 +108,8 @@ core-names C B0 restOf c t N found b m x s K =
       tight = rw (g .str) refl;
       num = ap (λ z. z .num) fv ∙ g .vnum;
       untold = rw fv refl;
-      forms = λ D d. subst (λ z. Form D c (meaning (z .nodes)) (g .p)) (sym fv) (name-form (restOf D) D c t N (found D (reach-expr C D d)) b (value x) s (K D d) (g .p) (g .single));
-      deep = inl (rw (g .str) refl);
+      forms = λ D d w. subst (λ z. Form D c (meaning (z .nodes)) (g .p)) (sym fv) (name-form (restOf D) D c t N (found D (reach-expr C D d)) b (value x) s (K D d) (g .p) (g .single));
+      deep = as-tight (rw (g .str) refl);
     }
 
 -- ── in an expression ──
@@ -118,11 +119,11 @@ besides B B' D = choose (eqb D Column) (any B') (any B)
 -- the two forms of a rest, in every class
 both-rests : (B B' : ℕ) (c : Around) (v : Val) → NameKid (any B) c v → NameKid (any B') c v → (D : ℕ) → mem D exprs ≡ true → NameKid (besides B B' D) c v
 unfolding choose exprs
-both-rests B B' c v K K' D m = by-mem (λ D. NameKid (besides B B' D) c v) exprs (K, (K, (K, (K, (K, (K', tt)))))) D m
+both-rests B B' c v K K' D m = by-mem (λ D. NameKid (besides B B' D) c v) exprs (K, (K, (K, (K, (K, (K', (K, tt))))))) D m
 
 but-expr : (C : ℕ) → mem C butColumn ≡ true → mem C exprs ≡ true
 unfolding mem pick exprs butColumn
-but-expr C m = by-mem (λ C. mem C exprs ≡ true) butColumn (refl, (refl, (refl, (refl, (refl, tt))))) C m
+but-expr C m = by-mem (λ C. mem C exprs ≡ true) butColumn (refl, (refl, (refl, (refl, (refl, (refl, tt)))))) C m
 
 abbrev callKinds : List ℕ
 callKinds = ID ∷ KWID ∷ JOIN-KW ∷ []
@@ -136,18 +137,18 @@ unfolding mem pick
 indexed-names k m = by-mem (λ k. mem k names ≡ true) (INDEXED ∷ []) (refl, tt) k m
 
 call-found : (D : ℕ) → mem D exprs ≡ true → (k : ℕ) → mem k callKinds ≡ true → lookup D (plainKind k) (sql .heads) ≡ some (namesRow (besides NameRest? ColRest? D))
-unfolding sql lines butColumn exprs selectItems valuesItems headsOf tailsOf pick both mem lookup plainKind choose
+unfolding sql lines butColumn butIs exprs selectItems valuesItems headsOf tailsOf pick both mem lookup plainKind choose
 call-found D d k m = by-mem (λ D. lookup D (plainKind k) (sql .heads) ≡ some (namesRow (besides NameRest? ColRest? D))) exprs
     (at-k Expr (refl, (refl, (refl, tt))) also at-k Base? (refl, (refl, (refl, tt))) also at-k Paren (refl, (refl, (refl, tt))) also at-k Inside? (refl, (refl, (refl, tt)))
-    also at-k Args? (refl, (refl, (refl, tt))) also at-k Column (refl, (refl, (refl, tt))) also tt) D d
+    also at-k Args? (refl, (refl, (refl, tt))) also at-k Column (refl, (refl, (refl, tt))) also at-k IsRight (refl, (refl, (refl, tt))) also tt) D d
   where
     at-k : (D : ℕ) → AllOf (λ k. lookup D (plainKind k) (sql .heads) ≡ some (namesRow (besides NameRest? ColRest? D))) callKinds → lookup D (plainKind k) (sql .heads) ≡ some (namesRow (besides NameRest? ColRest? D))
     at-k D all = by-mem (λ k. lookup D (plainKind k) (sql .heads) ≡ some (namesRow (besides NameRest? ColRest? D))) callKinds all k m
 
 indexed-found : (D : ℕ) → mem D exprs ≡ true → (k : ℕ) → mem k (INDEXED ∷ []) ≡ true → lookup D (plainKind k) (sql .heads) ≡ some (namesRow (besides Dots? ColDots? D))
-unfolding sql lines butColumn exprs selectItems valuesItems headsOf tailsOf pick both mem lookup plainKind choose
+unfolding sql lines butColumn butIs exprs selectItems valuesItems headsOf tailsOf pick both mem lookup plainKind choose
 indexed-found D d k m = by-mem (λ k. lookup D (plainKind k) (sql .heads) ≡ some (namesRow (besides Dots? ColDots? D))) (INDEXED ∷ [])
-    (by-mem (λ D. lookup D INDEXED (sql .heads) ≡ some (namesRow (besides Dots? ColDots? D))) exprs (refl, (refl, (refl, (refl, (refl, (refl, tt)))))) D d, tt) k m
+    (by-mem (λ D. lookup D INDEXED (sql .heads) ≡ some (namesRow (besides Dots? ColDots? D))) exprs (refl, (refl, (refl, (refl, (refl, (refl, (refl, tt))))))) D d, tt) k m
 
 -- a rest that is read in an expression, in all forms
 expr-names : (C B B' : ℕ) (c : Around) (t : Tok) → Named (t .kind) (t .text) → ((D : ℕ) → mem D exprs ≡ true → lookup D (plainKind (t .kind)) (sql .heads) ≡ some (namesRow (besides B B' D)))
@@ -211,7 +212,7 @@ col-names-result : (B B' : ℕ) (c : Around) (t : Tok) → Named (t .kind) (t .t
     → Result Column (namesRow (any B')) c (firstName (any B') t x)
 unfolding choose mem pick exprs
 col-names-result B B' c t N found b x p r open-end ends = by-bool (eqb (value x .num) NAME-STAR)
-    (λ e. plain (inr (star-cap B' t x (ends e))) tt (star-pack B' c t N (found Column refl) b x p r e))
+    (λ e. plain (inr (inl (star-cap B' t x (ends e)))) tt (star-pack B' c t N (found Column refl) b x p r e))
     (λ e. core refl (col-core B B' c t N found b x e (record { z = p .y; stands = p .stands; clean = p .clean; cap = open-end e; fit = p .fit; rests = r })))
 
 pub col-names-step : HeadStep (record { of = Column ∷ []; at = callKinds; row = namesRow (any ColRest?) })

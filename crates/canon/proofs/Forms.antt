@@ -10,18 +10,19 @@ use Rattle.theory.specs.Trees.{Tok, Nt, Item, lit, nt, Row, Tree, nil, add, lea
 use Rattle.theory.specs.Table.{mem}
 use Rattle.theory.specs.Derives.{Ok}
 use Rattle.theory.specs.Judged.{faultsIn, AllZero}
-use Rattle.grammar.specs.Classes.{Expr, Name, Paren, Rows, Column, StarOrName, SecondName, Not, Exprs?, Offset?, ColRest?, ColDots?, Word2?, Word3?, Dot?, NameRest?, Dots?, E, any}
+use Rattle.grammar.specs.Classes.{Expr, Name, Paren, Rows, Column, StarOrName, SecondName, Not, Exprs?, Offset?, ColRest?, ColDots?, Word2?, Word3?, Dot?, NameRest?, Dots?, IsRight, E, any}
 use Rattle.grammar.specs.RowNames.{row-select, row-values, row-name, row-comma-offset, row-star, row-as, row-bare, row-star-args, row-distinct-args}
 use Rattle.grammar.specs.NodeNames.{node-absent}
 use Rattle.grammar.specs.Nodes.{Nodes}
 use Rattle.grammar.specs.Rows.{part, exprs}
 use Rattle.grammar.specs.Grammar.{bare, G}
 use Rattle.grammar.specs.Sizes.{LEVELS}
-use Rattle.grammar.specs.Limits.{Around, isQuery, under, furtherFlags, members, widthOf, judge}
+use Rattle.grammar.specs.Limits.{Around, isQuery, isExpression, furtherFlags, members, widthOf, judge}
 use Rattle.grammar.specs.Reading.{Val, empty, choose, NAME-STAR, value}
 use Rattle.grammar.specs.Meaning.{meaning}
 use Rattle.grammar.specs.Writing.{Piece}
 use Rattle.grammar.specs.Promise.{AllFit}
+use Rattle.canon.proofs.Counted.{under, deeper}
 use Rattle.canon.proofs.Folds.{P}
 use Rattle.canon.proofs.Says.{Operand, Rests, Says}
 
@@ -29,22 +30,35 @@ use Rattle.canon.proofs.Says.{Operand, Rests, Says}
 abbrev pub Clean : Tree → Around → Type 0
 Clean y c = AllZero (faultsIn Around under judge y c 0)
 
-abbrev pub deeper : Around → Around
-deeper c = record { level = c .level + 1; opened = c .opened }
-
 pub data Stands (A : Nt) : Tree → Type 0 where
   gone : G .nullable A ≡ true → Stands A nil
   here : {q : Row} {y : Tree} → Ok G A q y → Stands A y
 
 -- the classes at whose end a left operand may end; those that may end in name DOT STAR
 abbrev pub capped : List ℕ
-capped = Expr ∷ Name ∷ SecondName ∷ Not ∷ NameRest? ∷ Dots? ∷ Dot? ∷ ColRest? ∷ ColDots? ∷ StarOrName ∷ []
+capped = Expr ∷ IsRight ∷ Name ∷ SecondName ∷ Not ∷ NameRest? ∷ Dots? ∷ Dot? ∷ ColRest? ∷ ColDots? ∷ StarOrName ∷ []
 
 abbrev pub starry : List ℕ
 starry = ColRest? ∷ ColDots? ∷ StarOrName ∷ []
 
-abbrev pub Caps : ℕ → Val → Tree → Type 0
-Caps C v y = mem C capped ≡ true → (mem C starry ≡ true → eqb (v .num) NAME-STAR ≡ false) → leb 99 (capOf y) ≡ true
+abbrev pub pickN : Bool → ℕ → ℕ → ℕ
+pickN true a b = a
+pickN false a b = b
+
+-- the least that the end of what stands there leaves
+abbrev pub floorOf : Nt → ℕ
+floorOf B = pickN (eqb (B .of) Expr) (B .least) (pickN (eqb (B .of) Not) 4 (pickN (eqb (B .of) IsRight) 4 99))
+
+abbrev pub Caps : Nt → Val → Tree → Type 0
+Caps A v y = mem (A .of) capped ≡ true → (mem (A .of) starry ≡ true → eqb (v .num) NAME-STAR ≡ false) → leb (floorOf A) (capOf y) ≡ true
+
+-- after IS stands what holds 5 or tighter
+abbrev pub pickB : Bool → Bool → Bool → Bool
+pickB true a b = a
+pickB false a b = b
+
+abbrev pub fitsAt : ℕ → ℕ → Bool
+fitsAt D s = pickB (eqb D IsRight) (leb 5 s) true
 
 -- what some classes say of the trees themselves. , b: the expression in it
 abbrev pub CommaTree : Around → Tree → Type 0
@@ -79,7 +93,7 @@ pub record Pack (A : Nt) (c : Around) (x : Tree) : Type 0 where
   pub y : Tree
   pub stands : Stands A y
   pub clean : Clean y c
-  pub caps : Caps (A .of) (value x) y
+  pub caps : Caps A (value x) y
   pub fit : AllFit (toks y)
   pub says : Says A (value x) (value y) (toks y)
   pub more : More (A .of) c x y
@@ -92,18 +106,29 @@ pub record Form (D : ℕ) (c : Around) (n : Nodes) (p : Piece) : Type 0 where
   pub y : Tree
   pub q : Row
   pub ok : Ok G (any D) q y
-  pub strong : q .str ≡ p .str
+  pub strong : leb (p .str) (q .str) ≡ true
   pub writes : toks y ≡ p .toks
   pub same : n ≡ meaning (value y .nodes)
   pub untold : mem (value y .row) told ≡ false
   pub num : value y .num ≡ 0
   pub clean : Clean y c
-  pub cap : leb 99 (capOf y) ≡ true
+  pub cap : leb (p .str) (capOf y) ≡ true
   pub fit : AllFit (toks y)
 
 -- a column's names have rows of their own: what was read as a column is needed only as one
 unfoldable pub reach : ℕ → ℕ → Bool
 reach C D = choose (eqb C Column) (eqb D Column) (mem D exprs)
+
+-- how it may stand where more than its strength is asked: it holds as tightly as what was read; it may stand in parentheses; or, where levels
+-- count, it is asked for no more than what was read leaves
+pub data Deep (r : Row) (c : Around) (x : Tree) (p : Piece) : Type 0 where
+  as-tight : leb (r .str) (p .str) ≡ true → Deep r c x p
+  in-pair : leb (c .level) LEVELS ≡ true → Form Paren (deeper c) (meaning (value x .nodes)) p → Deep r c x p
+  spared : leb 1 (c .level) ≡ true → isExpression r ≡ true → leb (capOf x) (r .cap) ≡ true → leb (r .cap) (p .str) ≡ true → Deep r c x p
+
+-- so it is not where levels count: a NOT to the right
+abbrev pub Spare : ℕ → Row → Around → Type 0
+Spare s r c = leb 1 (c .level) ≡ true → isExpression r ≡ true → leb s (r .cap) ≡ true
 
 pub record Core (C : ℕ) (r : Row) (c : Around) (x : Tree) : Type 0 where
   pub p : Piece
@@ -112,8 +137,8 @@ pub record Core (C : ℕ) (r : Row) (c : Around) (x : Tree) : Type 0 where
   pub tight : leb 1 (p .str) ≡ true
   pub num : value x .num ≡ 0
   pub untold : mem (value x .row) told ≡ false
-  pub forms : (D : ℕ) → reach C D ≡ true → Form D c (meaning (value x .nodes)) p
-  pub deep : (leb (r .str) (p .str) ≡ true) ⊎ ((leb (c .level) LEVELS ≡ true) × ((D : ℕ) → mem D exprs ≡ true → Form D (deeper c) (meaning (value x .nodes)) p))
+  pub forms : (D : ℕ) → reach C D ≡ true → fitsAt D (p .str) ≡ true → Form D c (meaning (value x .nodes)) p
+  pub deep : Deep r c x p
 
 -- what stands in ( ) and is no expression: a query, or two expressions at least
 abbrev pub Wide : ℕ → Tree → Type 0
@@ -121,15 +146,15 @@ Wide C x = pickT (eqb C Paren) ((isQuery (value x .row) ≡ true) ⊎ ((p : Piec
 
 pub data Result (C : ℕ) (r : Row) (c : Around) (x : Tree) : Type 0 where
   core : mem C exprs ≡ true → Core C r c x → Result C r c x
-  plain : (leb 1 (r .str) ≡ false) ⊎ (capOf x ≡ 0) → Wide C x → ((s : ℕ) → leb s (r .str) ≡ true → Pack (record { of = C; least = s }) c x) → Result C r c x
+  plain : (leb 1 (r .str) ≡ false) ⊎ ((capOf x ≡ 0) ⊎ ((C ≡ IsRight) × (leb 5 (capOf x) ≡ false))) → Wide C x → ((s : ℕ) → leb s (r .str) ≡ true → Pack (record { of = C; least = s }) c x) → Result C r c x
 
--- a strength is asked of expressions only
+-- a strength is asked of expressions only, and 5 after IS
 unfoldable pub proper : Nt → Bool
-proper B = choose (eqb (B .of) Expr) true (eqb (B .least) 0)
+proper B = choose (eqb (B .of) Expr) true (choose (eqb (B .of) IsRight) (eqb (B .least) 5) (eqb (B .least) 0))
 
 pub data Kid (B : Nt) (c : Around) : Tree → Type 0 where
   left-out : G .nullable B ≡ true → Kid B c nil
-  there : {q : Row} {x : Tree} → proper B ≡ true → leb (B .least) (q .str) ≡ true → leb (q .str) 12 ≡ true → Result (B .of) q c x → Kid B c x
+  there : {q : Row} {x : Tree} → proper B ≡ true → leb (B .least) (q .str) ≡ true → leb (q .str) 12 ≡ true → Spare (B .least) q c → Result (B .of) q c x → Kid B c x
 
 -- the children of a row, along its items
 abbrev pub KidsOf : List Item → Around → Type 0

@@ -1,3 +1,4 @@
+pub mod Counted
 pub mod Folds
 pub mod Says
 pub mod Forms
@@ -23,7 +24,10 @@ pub mod FewWords
 pub mod JoinWords
 pub mod NameExprs
 pub mod FirstNames
+pub mod IsNot
 pub mod AllSteps
 pub mod Drive
+pub mod Shallow
 pub mod Canonical
 pub mod Calls
+pub mod Needed

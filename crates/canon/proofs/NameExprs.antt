@@ -16,15 +16,16 @@ use Rattle.kinds.specs.Kinds.{LP, RP, DOT, STAR}
 use Rattle.kinds.specs.Classes.{names}
 use Rattle.grammar.specs.Classes.{StarOrName, SecondName, ColRest?, ColDots?, Dot?, Args?, NameRest?, Dots?, any}
 use Rattle.grammar.specs.RowNames.{row-dot, row-dot-star, row-second-name, row-call}
-use Rattle.grammar.specs.Rows.{part, ending, butColumn, exprs, selectItems, valuesItems, lines, headsOf, tailsOf}
+use Rattle.grammar.specs.Rows.{part, ending, butColumn, butIs, exprs, selectItems, valuesItems, lines, headsOf, tailsOf}
 use Rattle.grammar.specs.Grammar.{sql}
-use Rattle.grammar.specs.Limits.{Around, below, begun, judge}
+use Rattle.grammar.specs.Limits.{Around, begun, judge}
 use Rattle.grammar.specs.Reading.{empty, _#_, NAME-STAR, rules, ruled, valueOf, value, values}
 use Rattle.grammar.specs.Writing.{tok, at}
+use Rattle.canon.proofs.Counted.{below}
 use Rattle.canon.proofs.Says.{Rests, NameRests, only-star, Pred, SaysOf}
-use Rattle.canon.proofs.Forms.{here, starry, ColForm, More, Pack, Result, KidsOf, grow, vs, ws, tk}
+use Rattle.canon.proofs.Forms.{here, starry, ColForm, More, Pack, Result, KidsOf, grow, vs, ws, tk, floorOf}
 use Rattle.canon.proofs.Places.{_also_, AllOf, by-mem}
-use Rattle.canon.proofs.Place.{place}
+use Rattle.canon.proofs.Place.{place, le-trans, floor-none}
 use Rattle.canon.proofs.Rebuild.{said, regrow, stands-part, regrow-part, kept, new-clean, keep-clean, keep}
 use Rattle.canon.proofs.Lines.{Finds}
 use Rattle.canon.proofs.Steps.{Fit, HeadStep, plainly, begins-zero, head-opens, head-step, only-class, open-tests}
@@ -59,7 +60,7 @@ abbrev secondLine : Line
 secondLine = record { of = StarOrName ∷ SecondName ∷ []; at = names; row = secondRow }
 
 second-found : Finds secondLine (sql .heads)
-unfolding sql lines butColumn exprs selectItems valuesItems headsOf tailsOf pick both mem lookup
+unfolding sql lines butColumn butIs exprs selectItems valuesItems headsOf tailsOf pick both mem lookup
 second-found D k m n = by-mem (λ D. lookup D k (sql .heads) ≡ some secondRow) (StarOrName ∷ SecondName ∷ []) (at-names StarOrName (refl, (refl, (refl, (refl, (refl, tt))))) also at-names SecondName (refl, (refl, (refl, (refl, (refl, tt))))) also tt) D m
   where
     at-names : (D : ℕ) → AllOf (λ k. lookup D k (sql .heads) ≡ some secondRow) names → lookup D k (sql .heads) ≡ some secondRow
@@ -86,7 +87,7 @@ unfolding grow regrow said toks value values valueOf ruled rules _#_ faultsIn ca
 col-dots-pack C s more star f m c t k z =
     let K = place (any StarOrName) (below dotStarRow c) (k .1) in
     keep-clean C dotStarRow c nil nil t (tok DOT) k refl
-    (λ a b. le-leb 99 (min 99 (capOf (K .y))) (let i = leb-le 99 (capOf (K .y)) (K .caps refl (λ e. b star)) in omega arith))
+    (λ a b. le-trans (floorOf (any C)) 99 (min 99 (capOf (K .y))) (floor-none (any C) refl) (le-leb 99 (min 99 (capOf (K .y))) (let i = leb-le 99 (capOf (K .y)) (K .caps refl (λ e. b star)) in omega arith)))
     (head-opens dotStarLine C (tok DOT) f m refl)
     (new-clean C dotStarRow c nil nil t (tok DOT) k refl tt z) tt refl
     (subst (λ (F : Pred). F (valueOf row-dot empty t (value (k .0) ∷ [])) (valueOf row-dot empty (tok DOT) (value (K .y) ∷ [])) (tok DOT ∷ (toks (K .y) ++ []))) (sym s) (col-dots t (tok DOT) (K .says)))
@@ -161,7 +162,7 @@ dot-name-pack C s e m f c t n h k b more = let S = said (below dotNameRow c) (do
     (more (node dotNameRow nil (a .0) (regrow (below dotNameRow c) (dotNameRow .items) k nil)))
 
 dot-found : (C : ℕ) → mem C (ColRest? ∷ ColDots? ∷ []) ≡ true → lookup C DOT (sql .heads) ≡ some dotStarRow
-unfolding sql lines butColumn exprs selectItems valuesItems headsOf tailsOf pick both mem lookup
+unfolding sql lines butColumn butIs exprs selectItems valuesItems headsOf tailsOf pick both mem lookup
 dot-found C m = by-mem (λ C. lookup C DOT (sql .heads) ≡ some dotStarRow) (ColRest? ∷ ColDots? ∷ []) (refl, (refl, tt)) C m
 
 pub dot-name-step : HeadStep dotNameLine

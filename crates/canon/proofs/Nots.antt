@@ -7,7 +7,7 @@ use mathlib.Core.Path.{_≡_, refl, sym, ap, _∙_, subst}
 use Prim.Native.Nat.{ℕ, _+_}
 use lib.Dec.{eqb, leb}
 use native.Mathlib.Omega.{arith}
-use Rattle.theory.specs.Trees.{Tok, lit, nt, Row, Tree, nil, node, toks}
+use Rattle.theory.specs.Trees.{Tok, lit, nt, Row, Tree, nil, node, toks, capOf}
 use Rattle.theory.specs.Table.{pick, both, mem, lookup}
 use Rattle.theory.proofs.Cases.{by-bool, 0≢1, eqb-eq}
 use Rattle.kinds.specs.Kinds.{NULL, LP, RP, AND, NOT, IN, BETWEEN, LIKE-KW, NOTNULL}
@@ -16,15 +16,16 @@ use Rattle.grammar.specs.Classes.{Not, Inside?, E, any}
 use Rattle.grammar.specs.RowNames.{row-not, row-not-like, row-not-in, row-not-between, row-not-null, row-null-test}
 use Rattle.grammar.specs.NodeNames.{node-list, node-binary, node-null-test, node-in-list, node-in-query, node-between}
 use Rattle.grammar.specs.Nodes.{end, mk, beside}
-use Rattle.grammar.specs.Rows.{part, strong, butColumn, exprs, selectItems, valuesItems, lines, headsOf, tailsOf}
+use Rattle.grammar.specs.Rows.{part, strong, butColumn, butIs, exprs, selectItems, valuesItems, lines, headsOf, tailsOf}
 use Rattle.grammar.specs.Grammar.{sql}
-use Rattle.grammar.specs.Limits.{Around, isQuery, below}
+use Rattle.grammar.specs.Limits.{Around, isQuery}
 use Rattle.grammar.specs.Reading.{Val, empty, one, inside, valueOf, value, values}
 use Rattle.grammar.specs.Meaning.{meaning}
 use Rattle.grammar.specs.Writing.{tok, toktext, at, binaryStr, forms, piece}
+use Rattle.canon.proofs.Counted.{below}
 use Rattle.canon.proofs.Folds.{P, mean, flat}
 use Rattle.canon.proofs.Says.{Operand, Inner, Nots, like-after, query-after, list-after, between-after, null-after, Cored}
-use Rattle.canon.proofs.Forms.{Core, core, KidsOf, grow}
+use Rattle.canon.proofs.Forms.{as-tight, Core, core, KidsOf, grow}
 use Rattle.canon.proofs.Places.{by-mem, only, open-flat}
 use Rattle.canon.proofs.Place.{place}
 use Rattle.canon.proofs.Rebuild.{said, regrow}
@@ -137,14 +138,14 @@ unfolding open-flat
 null-value v v1 t e = rw (eqb-eq (v1 .row) row-not-null e)
 
 null-found : Finds (record { of = exprs; at = NOTNULL ∷ []; row = nullTestRow }) (sql .tails)
-unfolding sql lines butColumn exprs selectItems valuesItems headsOf tailsOf pick both mem lookup
+unfolding sql lines butColumn butIs exprs selectItems valuesItems headsOf tailsOf pick both mem lookup
 null-found D k m n = subst (λ z. lookup D z (sql .tails) ≡ some nullTestRow) (sym (only k NOTNULL n))
-    (by-mem (λ C. lookup C NOTNULL (sql .tails) ≡ some nullTestRow) exprs (refl, (refl, (refl, (refl, (refl, (refl, tt)))))) D m)
+    (by-mem (λ C. lookup C NOTNULL (sql .tails) ≡ some nullTestRow) exprs (refl, (refl, (refl, (refl, (refl, (refl, (refl, tt))))))) D m)
 
-null-core : (C : ℕ) → mem C exprs ≡ true → (c : Around) (q : Row) (l : Tree) (x : Core C q c l) → leb 4 (q .str) ≡ true → leb (q .str) 12 ≡ true
+null-core : (C : ℕ) → mem C exprs ≡ true → (c : Around) (q : Row) (l : Tree) (x : Core C q c l) → leb 4 (q .str) ≡ true → leb (q .str) 12 ≡ true → leb 4 (capOf l) ≡ true
     → (t : Tok) (k : KidsOf (notRow .items) (below notRow c)) → eqb (value (k .0) .row) row-not-null ≡ true → Core C notRow c (node notRow l t (grow (below notRow c) (notRow .items) k nil))
 unfolding open-flat open-tests grow value values regrow said
-null-core C m c q l x a b t k e =
+null-core C m c q l x a b d t k e =
     let ov : value (node notRow l t (grow (below notRow c) (notRow .items) k nil)) ≡ record { row = row-not; num = 0; nodes = mk node-null-test NOTNULL (beside (value l .nodes) end) end }
     = null-value (value l) (value (k .0)) t e in
     record {
@@ -154,17 +155,17 @@ null-core C m c q l x a b t k e =
       tight = refl;
       num = ap (λ z. z .num) ov;
       untold = refl;
-      forms = after-form (NOTNULL ∷ []) nullTestRow refl null-found C c q l x a b tt _ (piece node-null-test NOTNULL (x .p ∷ [])) refl
+      forms = after-form (NOTNULL ∷ []) nullTestRow refl null-found C c q l x a b d tt _ (piece node-null-test NOTNULL (x .p ∷ [])) refl
           (λ w ts o. let one : o .p ∷ [] ≡ x .p ∷ [] = sym (o .single) ∙ x .single in let e1 : o .p ≡ x .p = cc in
           (tok NOTNULL, refl, refl, simp (o .toks, e1), ap (λ z. meaning (z .nodes)) ov ∙ simp (mean, o .same), refl));
-      deep = inl refl;
+      deep = as-tight refl;
     }
 
 pub not-step : TailStep (record { of = exprs; at = NOT ∷ []; row = notRow })
 unfolding open-tests said
-not-step C m f c q l x a b d zl t n h k z =
-    let y = left-core C q c l 4 refl a d x in
+not-step C m f c q l x a b d i zl t n h k z =
+    let y = left-core C q c l 4 refl a d i x in
     core m (by-bool (eqb (value (k .0) .row) row-not-null)
-    (λ e. null-core C m c q l y a b t k e)
-    (λ e. core-after (NOT ∷ []) notRow refl C m f c q l y a b t k
+    (λ e. null-core C m c q l y a b d t k e)
+    (λ e. core-after (NOT ∷ []) notRow refl C m f c q l y a b d i t k
     (λ w ts o. (tok NOT, refl, refl, not-told (value l) w ts o t (value (k .0)) _ _ (place (any Not) (below notRow c) (k .1) .says) e))))

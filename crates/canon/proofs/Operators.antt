@@ -2,7 +2,7 @@
 use mathlib.Core.Bool.{true, false, Bool, _&&_}
 use mathlib.Core.List.{List, [], _∷_, _++_, append-nil}
 use mathlib.Core.Path.{_≡_, refl, sym, ap, _∙_}
-use Prim.Native.Nat.{ℕ, _+_, _≤_}
+use Prim.Native.Nat.{ℕ, _+_, _≤_, min}
 use borrow.Author.Tests.{lt-leb}
 use lib.Dec.{leb}
 use native.Mathlib.Omega.{arith}
@@ -12,15 +12,15 @@ use Rattle.theory.proofs.Cases.{0≢1, leb-le, le-leb}
 use Rattle.kinds.specs.Kinds.{LP, RP, AND, NOT, IS, IN, BETWEEN, LIKE-KW, ISNULL, NOTNULL, COLLATE}
 use Rattle.kinds.specs.Fit.{fitText, fits}
 use Rattle.kinds.specs.Strength.{strengthOf, prefixOf}
-use Rattle.grammar.specs.Classes.{Name, Inside?, IsNot?, E, any}
+use Rattle.grammar.specs.Classes.{Name, Inside?, IsRight, E, any, afterIs}
 use Rattle.grammar.specs.RowNames.{row-prefix, row-is, row-is-not, row-like, row-in, row-between, row-null-test, row-collate}
 use Rattle.grammar.specs.NodeNames.{node-list, node-prefix, node-binary, node-null-test, node-in-list, node-in-query, node-between, node-collate}
-use Rattle.grammar.specs.Rows.{part, strong, binary}
+use Rattle.grammar.specs.Rows.{strong, binary, running}
 use Rattle.grammar.specs.Limits.{isQuery}
 use Rattle.grammar.specs.Reading.{Val, empty, choose, valueOf}
 use Rattle.grammar.specs.Writing.{tok, toktext, at, binaryToks, binaryStr, piece}
 use Rattle.canon.proofs.Folds.{meaning-beside, P, P-beside}
-use Rattle.canon.proofs.Says.{Operand, IsNots, only-is, is-not, Inner, Cored}
+use Rattle.canon.proofs.Says.{Operand, IsRights, only-is, is-not, Inner, Cored}
 use Rattle.canon.proofs.Places.{AllOf, by-mem, only, open-all}
 use Rattle.canon.proofs.Steps.{HeadSays, CoreHead, CoreTail}
 
@@ -28,9 +28,9 @@ use Rattle.canon.proofs.Steps.{HeadSays, CoreHead, CoreTail}
 abbrev pub Binary : ℕ → ℕ → Type 0
 Binary s k = (binaryStr k ≡ s) × (binaryToks k ≡ tok k ∷ []) × (fits k 0 ≡ true)
 
-pub binary-says : (s : ℕ) (ks : List ℕ) → AllOf (Binary s) ks → CoreTail ks (binary s)
+pub binary-says : (s : ℕ) (ks : List ℕ) → s ≡ min s 99 → AllOf (Binary s) ks → CoreTail ks (binary s)
 unfolding open-all
-binary-says s ks all v w ts L t n h S =
+binary-says s ks m all v w ts L t n h S =
     let b = by-mem (Binary s) ks all (t .kind) n in
     let X = S .3 in (
       tok (t .kind),
@@ -40,7 +40,7 @@ binary-says s ks all v w ts L t n h S =
         p = piece node-binary (t .kind) (L .p ∷ X .p ∷ []);
         single = simp (P-beside, L .single, X .single);
         solid = refl;
-        str = b .0;
+        str = b .0 ∙ m;
         vnum = refl;
         wnum = refl;
         same = simp (meaning-beside, L .same, X .same);
@@ -51,9 +51,9 @@ binary-says s ks all v w ts L t n h S =
 abbrev pub Prefix : ℕ → ℕ → Type 0
 Prefix s k = (prefixOf k ≡ s) × (fits k 0 ≡ true)
 
-pub prefix-says : (s : ℕ) (ks : List ℕ) → AllOf (Prefix s) ks → CoreHead ks (strong s row-prefix (nt (E s) ∷ []))
+pub prefix-says : (a l c s : ℕ) (ks : List ℕ) → s ≡ min a c → AllOf (Prefix s) ks → CoreHead ks (record { code = row-prefix; str = a; left = l; cap = c; items = nt (E s) ∷ [] })
 unfolding open-all
-prefix-says s ks all t n h S =
+prefix-says a l c s ks m all t n h S =
     let b = by-mem (Prefix s) ks all (t .kind) n in
     let X = S .3 in (
       tok (t .kind),
@@ -63,7 +63,7 @@ prefix-says s ks all t n h S =
         p = piece node-prefix (t .kind) (X .p ∷ []);
         single = simp (P-beside, X .single);
         solid = refl;
-        str = b .0;
+        str = b .0 ∙ m;
         vnum = refl;
         wnum = refl;
         same = simp (meaning-beside, X .same);
@@ -72,10 +72,10 @@ prefix-says s ks all t n h S =
     )
 
 -- IS, IS NOT
-is-told : (v w : Val) (ts : List Tok) → Operand 4 v w ts → (t : Tok) → t .kind ≡ IS → (v1 w1 : Val) (ts1 : List Tok) → IsNots v1 w1 ts1 → (v2 w2 : Val) (ts2 : List Tok) → Operand 5 v2 w2 ts2
-    → Cored 4 (valueOf row-is v t (v1 ∷ v2 ∷ [])) (valueOf row-is w (tok IS) (w1 ∷ w2 ∷ [])) (ts ++ (tok IS ∷ (ts1 ++ (ts2 ++ []))))
+is-told : (v w : Val) (ts : List Tok) → Operand 4 v w ts → (t : Tok) → t .kind ≡ IS → (v1 w1 : Val) (ts1 : List Tok) → IsRights v1 w1 ts1
+    → Cored 4 (valueOf row-is v t (v1 ∷ [])) (valueOf row-is w (tok IS) (w1 ∷ [])) (ts ++ (tok IS ∷ (ts1 ++ [])))
 unfolding open-all strengthOf
-is-told v w ts L t k v1 w1 ts1 (only-is a b) v2 w2 ts2 X = record {
+is-told v w ts L t k v1 w1 ts1 (only-is a b X) = record {
   p = piece node-binary 37 (L .p ∷ X .p ∷ []);
   single = simp (k, a, P-beside, L .single, X .single);
   solid = refl;
@@ -85,7 +85,7 @@ is-told v w ts L t k v1 w1 ts1 (only-is a b) v2 w2 ts2 X = record {
   same = simp (k, a, b, meaning-beside, L .same, X .same);
   toks = simp (append-nil, L .toks, X .toks);
 }
-is-told v w ts L t k v1 w1 ts1 (is-not a b) v2 w2 ts2 X = record {
+is-told v w ts L t k v1 w1 ts1 (is-not a b X) = record {
   p = piece node-binary 137 (L .p ∷ X .p ∷ []);
   single = simp (k, a, P-beside, L .single, X .single);
   solid = refl;
@@ -96,13 +96,14 @@ is-told v w ts L t k v1 w1 ts1 (is-not a b) v2 w2 ts2 X = record {
   toks = simp (append-nil, L .toks, X .toks);
 }
 
-pub is-says : CoreTail (IS ∷ []) (strong 4 row-is (nt (any IsNot?) ∷ nt (E 5) ∷ []))
+pub is-says : CoreTail (IS ∷ []) (strong 4 row-is (nt afterIs ∷ []))
 unfolding mem pick fits fitText
-is-says v w ts L t n h S = (tok IS, refl, refl, is-told v w ts L t (only (t .kind) IS n) (S .0) (S .1) (S .2) (S .3) (S .4 .0) (S .4 .1) (S .4 .2) (S .4 .3))
+is-says v w ts L t n h S = (tok IS, refl, refl, is-told v w ts L t (only (t .kind) IS n) (S .0) (S .1) (S .2) (S .3))
 
-pub is-not-says : HeadSays (NOT ∷ []) (part row-is-not []) IsNot?
+pub is-not-says : HeadSays (NOT ∷ []) (running 5 4 row-is-not (nt (E 5) ∷ [])) IsRight
 unfolding open-all fits fitText
-is-not-says t n h S = (tok NOT, refl, refl, is-not refl refl)
+is-not-says t n h S = let X = S .3 in
+    (tok NOT, refl, refl, is-not refl refl (record { p = X .p; single = simp (P-beside, X .single); solid = X .solid; same = simp (meaning-beside, X .same); toks = simp (append-nil, X .toks) }))
 
 and-r : (a b : Bool) → a && b ≡ true → b ≡ true
 and-r true b e = e

@@ -1,4 +1,4 @@
--- Parentheses: around one expression they vanish, and what stood in them may stand one level less deep (mono); else they stay. Assumes nothing.
+-- Parentheses: around one expression they vanish, and what stood in them may stand one level less deep; else they stay. Assumes nothing.
 use mathlib.Core.Bool.{true, false}
 use mathlib.Core.List.{List, [], _∷_, _++_, append-nil}
 use mathlib.Core.Logic.{_⊎_, inl, inr}
@@ -19,86 +19,27 @@ use Rattle.grammar.specs.Nodes.{Nodes, end, mk}
 use Rattle.grammar.specs.Rows.{strong, exprs, optional}
 use Rattle.grammar.specs.Grammar.{sql, G}
 use Rattle.grammar.specs.Sizes.{LEVELS}
-use Rattle.grammar.specs.Limits.{Around, isQuery, below, under, begun, judge}
+use Rattle.grammar.specs.Limits.{Around, isQuery, begun, judge}
 use Rattle.grammar.specs.Reading.{Val, empty, choose, isEnd, rules, ruled, valueOf, value, values}
 use Rattle.grammar.specs.Meaning.{isOne, meaning}
 use Rattle.grammar.specs.Writing.{Piece, tok, at, forms, piece, pieces}
+use Rattle.canon.proofs.Counted.{below, deeper, deeper-more, five}
 use Rattle.canon.proofs.Folds.{beside-end, P, mean, flat}
 use Rattle.canon.proofs.Says.{Inner, Cored}
-use Rattle.canon.proofs.Forms.{deeper, Form, reach, Core, core, plain, Kid, left-out, there, grow}
+use Rattle.canon.proofs.Forms.{in-pair, Form, reach, Core, core, plain, Kid, left-out, there, grow, fitsAt}
 use Rattle.canon.proofs.Places.{open-rules, open-all, open-flat}
-use Rattle.canon.proofs.Place.{all-app, all-left, all-right, parensRow, parens-value, place}
+use Rattle.canon.proofs.Place.{form-less, paren-expr, parensRow, parens-value, place}
 use Rattle.canon.proofs.Rebuild.{said}
 use Rattle.canon.proofs.Lines.{Finds}
 use Rattle.canon.proofs.Steps.{HeadStep, begins-zero, reach-expr, core-here, open-tests}
 
--- ── what is within the limits is so less deep ──
-five : _≡_ {A = ℕ} 5 0 → ⊥
-five e = omega arith
-
-begun-mono : (c d : Around) (r : Row) (l : Tree) → d .level ≤ c .level → d .opened ≡ c .opened → begun c r l ≡ 0 → begun d r l ≡ 0
-unfolding begun pick
-begun-mono c d r nil h e z = by-bool (both (leb 1 (r .str)) (ltb LEVELS (c .level)))
-    (λ g. absurd (five (rw g at z)))
-    (λ g. pick-case (λ y. y ≡ 0) (both (leb 1 (r .str)) (ltb LEVELS (d .level))) 5 _
-    (λ i. 0≢1 (sym g ∙ both-i (leb 1 (r .str)) (ltb LEVELS (c .level)) (both-l (leb 1 (r .str)) _ i)
-    (lt-ltb LEVELS (c .level) (let j = ltb-true LEVELS (d .level) (both-r (leb 1 (r .str)) _ i) in omega arith))))
-    (λ i. rw e (rw g at z)))
-begun-mono c d r (add f x) h e z = refl
-begun-mono c d r (leaf t) h e z = refl
-begun-mono c d r (node q l t f) h e z = refl
-
-below-level : (c d : Around) (r : Row) → d .level ≤ c .level → below r d .level ≤ below r c .level
-unfolding below pick
-below-level c d r h = by-bool (leb 1 (r .str)) (λ e. rw e (omega arith)) (λ e. rw e h)
-
-below-opened : (c d : Around) (r : Row) → d .opened ≡ c .opened → below r d .opened ≡ below r c .opened
-unfolding below
-below-opened c d r e = rw e
-
-mutual
-  unfolding faultsIn faultsKids judge
-
-  pub mono : (y : Tree) (c d : Around) (m : ℕ) → d .level ≤ c .level → d .opened ≡ c .opened → AllZero (faultsIn Around under judge y c m) → AllZero (faultsIn Around under judge y d m)
-  mono nil c d m h e z = tt
-  mono (add f x) c d m h e z = tt
-  mono (leaf u) c d m h e z = z
-  mono (node r l t f) c d m h e z =
-      let a = all-right (faultsIn Around under judge l c 0) (begun c r l ∷ faultsKids Around under judge f c r l t) z in
-      all-app (faultsIn Around under judge l d 0) (begun d r l ∷ faultsKids Around under judge f d r l t)
-      (mono l c d 0 h e (all-left (faultsIn Around under judge l c 0) (begun c r l ∷ faultsKids Around under judge f c r l t) z))
-      (begun-mono c d r l h e (a .0), mono-kids f c d r l t h e (a .1))
-
-  mono-kids : (f : Tree) (c d : Around) (r : Row) (l : Tree) (t : Tok) → d .level ≤ c .level → d .opened ≡ c .opened
-      → AllZero (faultsKids Around under judge f c r l t) → AllZero (faultsKids Around under judge f d r l t)
-  mono-kids nil c d r l t h e z = tt
-  mono-kids (add f x) c d r l t h e z =
-      all-app (faultsKids Around under judge f d r l t) (faultsIn Around under judge x (below r d) (judge d r l t (add f x)))
-      (mono-kids f c d r l t h e (all-left (faultsKids Around under judge f c r l t) (faultsIn Around under judge x (below r c) (judge c r l t (add f x))) z))
-      (mono x (below r c) (below r d) (judge c r l t (add f x)) (below-level c d r h) (below-opened c d r e)
-      (all-right (faultsKids Around under judge f c r l t) (faultsIn Around under judge x (below r c) (judge c r l t (add f x))) z))
-  mono-kids (leaf u) c d r l t h e z = tt
-  mono-kids (node q m u f) c d r l t h e z = tt
-
 -- ── one expression in parentheses ──
 less-deep : (D : ℕ) (c : Around) (n : Nodes) (p : Piece) → Form D (deeper c) n p → Form D c n p
-less-deep D c n p f = record {
-  y = f .y;
-  q = f .q;
-  ok = f .ok;
-  strong = f .strong;
-  writes = f .writes;
-  same = f .same;
-  untold = f .untold;
-  num = f .num;
-  clean = mono (f .y) (deeper c) c 0 (omega arith) refl (f .clean);
-  cap = f .cap;
-  fit = f .fit;
-}
+less-deep D c n p f = form-less D (deeper c) c n p (deeper-more (c .level)) refl f
 
 parens-level : (c : Around) → begun c parensRow nil ≡ 0 → leb (c .level) LEVELS ≡ true
 unfolding begun pick both isQuery
-parens-level c z = by-bool (ltb LEVELS (c .level)) (λ e. absurd (five (rw e at z))) (λ e. le-leb (c .level) LEVELS (ltb-false LEVELS (c .level) e))
+parens-level c z = by-bool (ltb LEVELS (c .level)) (λ e. five (rw e at z)) (λ e. le-leb (c .level) LEVELS (ltb-false LEVELS (c .level) e))
 
 from-paren : (D : ℕ) → mem D exprs ≡ true → reach Paren D ≡ true
 unfolding reach choose
@@ -108,8 +49,8 @@ one-core : (C : ℕ) (q : Row) (c : Around) (x : Tree) (t u : Tok) → begun c p
 unfolding value values valueOf ruled rules pick mem
 one-core C q c x t u z k =
     let e : meaning (value x .nodes) ≡ meaning (value (node parensRow nil t (add (add nil x) (leaf u))) .nodes) = parens-value (value x) (meaning (value x .nodes)) t u (k .p) refl (k .single) (k .untold) in
-    let deeply : (D : ℕ) → mem D exprs ≡ true → Form D (deeper c) (meaning (value (node parensRow nil t (add (add nil x) (leaf u))) .nodes)) (k .p)
-    = λ D d. subst (λ n. Form D (deeper c) n (k .p)) e (k .forms D (from-paren D d)) in
+    let deeply : (D : ℕ) → mem D exprs ≡ true → fitsAt D (k .p .str) ≡ true → Form D (deeper c) (meaning (value (node parensRow nil t (add (add nil x) (leaf u))) .nodes)) (k .p)
+    = λ D d w. subst (λ n. Form D (deeper c) n (k .p)) e (k .forms D (from-paren D d) w) in
     record {
       p = k .p;
       single = ap pieces (sym e) ∙ k .single;
@@ -117,8 +58,8 @@ one-core C q c x t u z k =
       tight = k .tight;
       num = refl;
       untold = refl;
-      forms = λ D d. less-deep D c _ (k .p) (deeply D (reach-expr C D d));
-      deep = inr (parens-level c z, deeply);
+      forms = λ D d w. less-deep D c _ (k .p) (deeply D (reach-expr C D d) w);
+      deep = in-pair (parens-level c z) (deeply Paren paren-expr refl);
     }
 
 -- ── a query in parentheses, or more expressions ──
@@ -181,11 +122,11 @@ parens-kid : (C : ℕ) → mem C exprs ≡ true → Finds (record { of = exprs; 
     → begun c parensRow nil ≡ 0 → Core C parensRow c (node parensRow nil t (grow (below parensRow c) (parensRow .items) (x, k, (u, e, tt)) nil))
 unfolding grow said below isQuery pick open-tests
 parens-kid C m f c t (left-out n) u e z = absurd (no-absent n)
-parens-kid C m f c t (there {q = q} {x = x} pr le tw (core i k)) u e z = one-core C q c x t u z k
-parens-kid C m f c t (there {q = q} {x = x} pr le tw (plain b wd g)) u e z =
-    let kid = there {q = q} {x = x} pr le tw (plain b wd g) in
+parens-kid C m f c t (there {q = q} {x = x} pr le tw sp (core i k)) u e z = one-core C q c x t u z k
+parens-kid C m f c t (there {q = q} {x = x} pr le tw sp (plain b wd g)) u e z =
+    let kid = there {q = q} {x = x} pr le tw sp (plain b wd g) in
     let p = place (any Paren) (below parensRow c) kid in
-    core-here (LP ∷ []) parensRow refl C m f c t (x, kid, (u, e, tt)) z (tok LP) refl refl
+    core-here exprs (LP ∷ []) parensRow refl (λ D m w. m) C m f c t (x, kid, (u, e, tt)) z (tok LP) refl refl
     (wide-told (value x) (value (p .y)) (toks (p .y)) t (p .says) wd)
 
 pub parens-step : HeadStep (record { of = exprs; at = LP ∷ []; row = parensRow })

@@ -108,7 +108,6 @@ absents =
     also (λ s. no-index refl refl (maybe-absent (after (tok INDEXED ∷ tok BY ∷ [])) refl))
     also (λ s. maybe-absent written refl)
     also (λ s. plain-args refl refl refl refl)
-    also (λ s. only-is refl refl)
     also (λ s. record { rests = rests-absent; no-star = refl })
     also (λ s. record { rests = rests-absent; no-star = refl })
     also (λ s. record { even = no-pair; same = refl; toks = refl })
@@ -208,6 +207,7 @@ module _ (v w : Val) (p : Piece) (x : Expressed v w p) where
       also inner-expr
       also (λ s e. plain-args (no-args (v .row) (x .vtold)) (no-args (w .row) (x .wtold)) (x .same) (zero-asked s e ∙ sym (rw (x .single) (append-nil (p .toks)))))
       also column-expr
+      also (λ s e. only-is (x .vnum) (x .wnum) (record { p = p; single = x .single; solid = x .solid; tight = x .tight; full = x .full; same = x .same; toks = ap (λ n. at n p) (eqb-eq s 5 e) }))
       also tt
 
   pub expr-says : (B : Nt) → mem (B .of) exprs ≡ true → proper B ≡ true → Says B v w (at (B .least) p)

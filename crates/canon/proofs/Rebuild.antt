@@ -16,13 +16,14 @@ use Rattle.grammar.specs.Classes.{any}
 use Rattle.grammar.specs.RowNames.{row-next-row, row-word-join}
 use Rattle.grammar.specs.Rows.{rest}
 use Rattle.grammar.specs.Grammar.{bare, G}
-use Rattle.grammar.specs.Limits.{Around, below, under, begun, judge}
+use Rattle.grammar.specs.Limits.{Around, begun, judge}
 use Rattle.grammar.specs.Reading.{empty, says, valueOf, value, values}
 use Rattle.grammar.specs.Writing.{at}
 use Rattle.grammar.specs.Promise.{AllFit}
+use Rattle.canon.proofs.Counted.{below, under, all-app}
 use Rattle.canon.proofs.Says.{Says}
-use Rattle.canon.proofs.Forms.{Clean, Stands, gone, here, capped, starry, Caps, More, Pack, KidsOf, grow, Said, vs, ws, tk}
-use Rattle.canon.proofs.Place.{all-app, fit-app, place}
+use Rattle.canon.proofs.Forms.{Clean, Stands, gone, here, capped, starry, Caps, More, Pack, KidsOf, grow, Said, vs, ws, tk, floorOf}
+use Rattle.canon.proofs.Place.{fit-app, place, le-trans}
 
 unfoldable pub said : (c : Around) (is : List Item) → KidsOf is c → Said is
 said c [] ks = tt
@@ -115,33 +116,36 @@ regrow-clean c r l t (nt B ∷ is) ks f e z =
     regrow-clean c r l t is (ks .2) (add f (p .y)) e
     (all-app (faultsKids Around under judge f c r l t) (faultsIn Around under judge (p .y) (below r c) (judge c r l t (add f (p .y)))) z (clean-any (below r c) (judge c r l t (add f (p .y))) (p .stands) (p .clean)))
 
--- what a row's last item leaves: no limit
-unfoldable pub endsOpen : List Item → Bool
-endsOpen [] = true
-endsOpen (lit k ∷ []) = true
-endsOpen (nt B ∷ []) = both (mem (B .of) capped) (notb (mem (B .of) starry))
-endsOpen (lit k ∷ (j ∷ is)) = endsOpen (j ∷ is)
-endsOpen (nt B ∷ (j ∷ is)) = endsOpen (j ∷ is)
+-- a row's last item leaves n or more
+unfoldable pub endsOpen : ℕ → List Item → Bool
+endsOpen n [] = leb n 99
+endsOpen n (lit k ∷ []) = leb n 99
+endsOpen n (nt B ∷ []) = both (both (mem (B .of) capped) (notb (mem (B .of) starry))) (leb n (floorOf B))
+endsOpen n (lit k ∷ (j ∷ is)) = endsOpen n (j ∷ is)
+endsOpen n (nt B ∷ (j ∷ is)) = endsOpen n (j ∷ is)
 
-cap-rest : (c : Around) (i : Item) (is : List Item) (ks : KidsOf (i ∷ is) c) (f : Tree) → endsOpen (i ∷ is) ≡ true → leb 99 (capOf (regrow c (i ∷ is) ks f)) ≡ true
+cap-rest : (n : ℕ) (c : Around) (i : Item) (is : List Item) (ks : KidsOf (i ∷ is) c) (f : Tree) → endsOpen n (i ∷ is) ≡ true → leb n (capOf (regrow c (i ∷ is) ks f)) ≡ true
 unfolding endsOpen regrow capOf
-cap-rest c (lit k) [] ks f e = refl
-cap-rest c (nt B) [] ks f e = place B c (ks .1) .caps (both-l (mem (B .of) capped) (notb (mem (B .of) starry)) e)
-    (λ h. 0≢1 (sym (not-true (mem (B .of) starry) (both-r (mem (B .of) capped) (notb (mem (B .of) starry)) e)) ∙ h))
-cap-rest c (lit k) (j ∷ is) ks f e = cap-rest c j is (ks .2) (add f (leaf (bare k))) e
-cap-rest c (nt B) (j ∷ is) ks f e = cap-rest c j is (ks .2) (add f (place B c (ks .1) .y)) e
+cap-rest n c (lit k) [] ks f e = e
+cap-rest n c (nt B) [] ks f e =
+    let a = both-l (both (mem (B .of) capped) (notb (mem (B .of) starry))) (leb n (floorOf B)) e in
+    le-trans n (floorOf B) (capOf (place B c (ks .1) .y)) (both-r (both (mem (B .of) capped) (notb (mem (B .of) starry))) (leb n (floorOf B)) e)
+    (place B c (ks .1) .caps (both-l (mem (B .of) capped) (notb (mem (B .of) starry)) a)
+    (λ h. 0≢1 (sym (not-true (mem (B .of) starry) (both-r (mem (B .of) capped) (notb (mem (B .of) starry)) a)) ∙ h)))
+cap-rest n c (lit k) (j ∷ is) ks f e = cap-rest n c j is (ks .2) (add f (leaf (bare k))) e
+cap-rest n c (nt B) (j ∷ is) ks f e = cap-rest n c j is (ks .2) (add f (place B c (ks .1) .y)) e
 
-pub regrow-cap : (c : Around) (is : List Item) (ks : KidsOf is c) → endsOpen is ≡ true → leb 99 (capOf (regrow c is ks nil)) ≡ true
-unfolding regrow capOf
-regrow-cap c [] ks e = refl
-regrow-cap c (i ∷ is) ks e = cap-rest c i is ks nil e
+pub regrow-cap : (n : ℕ) (c : Around) (is : List Item) (ks : KidsOf is c) → endsOpen n is ≡ true → leb n (capOf (regrow c is ks nil)) ≡ true
+unfolding endsOpen regrow capOf
+regrow-cap n c [] ks e = e
+regrow-cap n c (i ∷ is) ks e = cap-rest n c i is ks nil e
 
 -- the test of a kept row of a class: no word of the limits inside, fit tokens, and its end leaves as much as is promised of the class
 unfoldable pub kept : ℕ → Row → Bool
-kept C r = both (quiet r) (both (itemsFit (r .items)) (pick (mem C capped) (both (eqb (r .cap) 99) (endsOpen (r .items))) (λ w. true)))
+kept C r = both (quiet r) (both (itemsFit (r .items)) (pick (mem C capped) (both (leb (floorOf (any C)) (r .cap)) (endsOpen (floorOf (any C)) (r .items))) (λ w. true)))
 
-node-cap : (m n : ℕ) → eqb m 99 ≡ true → leb 99 n ≡ true → leb 99 (min m n) ≡ true
-node-cap m n e h = le-leb 99 (min m n) (let a = eqb-eq m 99 e in let b = leb-le 99 n h in omega arith)
+node-cap : (n a b : ℕ) → leb n a ≡ true → leb n b ≡ true → leb n (min a b) ≡ true
+node-cap n a b e h = le-leb n (min a b) (let i = leb-le n a e in let j = leb-le n b h in omega arith)
 
 module _ (C : ℕ) (r : Row) (c : Around) (l l' : Tree) (t t' : Tok) (ks : KidsOf (r .items) (below r c)) where
   abbrev pub old : Tree
@@ -170,15 +174,15 @@ module _ (C : ℕ) (r : Row) (c : Around) (l l' : Tree) (t t' : Tok) (ks : KidsO
   unfolding value values
   new-value = ap (valueOf (r .code) (value l') t') (regrow-values (below r c) (r .items) ks nil)
 
-  pub new-cap : eqb (r .cap) 99 ≡ true → endsOpen (r .items) ≡ true → leb 99 (capOf new) ≡ true
+  pub new-cap : (n : ℕ) → leb n (r .cap) ≡ true → endsOpen n (r .items) ≡ true → leb n (capOf new) ≡ true
   unfolding capOf
-  new-cap e h = node-cap (r .cap) (capOf (regrow (below r c) (r .items) ks nil)) e (regrow-cap (below r c) (r .items) ks h)
+  new-cap n e h = node-cap n (r .cap) (capOf (regrow (below r c) (r .items) ks nil)) e (regrow-cap n (below r c) (r .items) ks h)
 
   abbrev SaysSo : Type 0
   SaysSo = Says (any C) (valueOf (r .code) (value l) t (vs (r .items) (said (below r c) (r .items) ks)))
       (valueOf (r .code) (value l') t' (ws (r .items) (said (below r c) (r .items) ks))) (toks l' ++ (t' ∷ tk (r .items) (said (below r c) (r .items) ks)))
 
-  pub keep-clean : itemsFit (r .items) ≡ true → Caps C (value old) new → Opens G (any C) l' t' r → Clean new c → AllFit (toks l') → fits (t' .kind) (t' .text) ≡ true → SaysSo → More C c old new → Pack (any C) c old
+  pub keep-clean : itemsFit (r .items) ≡ true → Caps (any C) (value old) new → Opens G (any C) l' t' r → Clean new c → AllFit (toks l') → fits (t' .kind) (t' .text) ≡ true → SaysSo → More C c old new → Pack (any C) c old
   keep-clean fi ca o z a f s m = record {
     y = new;
     stands = here (whole o (regrow-part (below r c) (r .items) ks begin));
@@ -194,5 +198,5 @@ module _ (C : ℕ) (r : Row) (c : Around) (l l' : Tree) (t t' : Tok) (ks : KidsO
   keep k o z b a f s m =
       let rest = both-r (quiet r) _ k in
       let ca = both-r (itemsFit (r .items)) _ rest in
-      keep-clean (both-l (itemsFit (r .items)) _ rest) (λ h g. let e = rw h at ca in new-cap (both-l (eqb (r .cap) 99) _ e) (both-r (eqb (r .cap) 99) _ e)) o
+      keep-clean (both-l (itemsFit (r .items)) _ rest) (λ h g. let e = rw h at ca in new-cap (floorOf (any C)) (both-l (leb (floorOf (any C)) (r .cap)) _ e) (both-r (leb (floorOf (any C)) (r .cap)) _ e)) o
       (new-clean (both-l (quiet r) _ k) z b) a f s m

@@ -10,7 +10,7 @@ use Rattle.theory.specs.Trees.{Tok, Nt}
 use Rattle.theory.specs.Table.{both, mem}
 use Rattle.words.specs.Sequences.{unitedAll}
 use Rattle.kinds.specs.Kinds.{INDEXED, COMMA, DOT, STAR, AND, NOT, IN, BETWEEN, LIKE-KW, WHEN, THEN, ELSE, AS, DISTINCT, WHERE, BY, HAVING, ORDER, DESC, NULLS, FIRST, LAST, LIMIT, OFFSET}
-use Rattle.grammar.specs.Classes.{Expr, Command, Name, Query, Paren, FirstLast, Rows, Column, StarOrName, Source, SecondName, Not, Semi?, Names?, Exprs?, Inside?, Order?, Terms?, Way?, Nulls?, Limit?, Offset?, Distinct?, Columns?, From?, Where?, Group?, Having?, ColRest?, ColDots?, Joins?, Word2?, Word3?, On?, Dot?, Alias?, Index?, Base?, Args?, IsNot?, NameRest?, Dots?, Whens?, Else?}
+use Rattle.grammar.specs.Classes.{Expr, Command, Name, Query, Paren, FirstLast, Rows, Column, StarOrName, Source, SecondName, Not, Semi?, Names?, Exprs?, Inside?, Order?, Terms?, Way?, Nulls?, Limit?, Offset?, Distinct?, Columns?, From?, Where?, Group?, Having?, ColRest?, ColDots?, Joins?, Word2?, Word3?, On?, Dot?, Alias?, Index?, Base?, Args?, IsRight, NameRest?, Dots?, Whens?, Else?}
 use Rattle.grammar.specs.RowNames.{row-comma-offset, row-not-like, row-not-in, row-not-between, row-not-null, row-call, row-star-args, row-distinct-args}
 use Rattle.grammar.specs.NodeNames.{node-absent, node-in-list, node-in-query}
 use Rattle.grammar.specs.Nodes.{end}
@@ -81,9 +81,10 @@ pub data NullsSays (v w : Val) : List Tok → Type 0 where
   nulls-first : v .num ≡ 1 → w .num ≡ 1 → NullsSays v w (tok NULLS ∷ tok FIRST ∷ [])
   nulls-last : v .num ≡ 2 → w .num ≡ 2 → NullsSays v w (tok NULLS ∷ tok LAST ∷ [])
 
-pub data IsNots (v w : Val) : List Tok → Type 0 where
-  only-is : v .num ≡ 0 → w .num ≡ 0 → IsNots v w []
-  is-not : v .num ≡ 100 → w .num ≡ 100 → IsNots v w (tok NOT ∷ [])
+-- after IS: its operand, or NOT and the operand of IS NOT
+pub data IsRights (v w : Val) (ts : List Tok) : Type 0 where
+  only-is : v .num ≡ 0 → w .num ≡ 0 → Operand 5 v w ts → IsRights v w ts
+  is-not : v .num ≡ 100 → w .num ≡ 100 → Single (λ p. tok NOT ∷ at 5 p) v w ts → IsRights v w ts
 
 -- an alias: none, or by AS, as which a bare one is written
 pub data Aliases (v w : Val) (ts : List Tok) : Type 0 where
@@ -262,7 +263,7 @@ SaysOf C s =
     (λ z. pick₁ (eqb C Dot?) Dotted
     (λ z. pick₁ (eqb C Alias?) Aliases
     (λ z. pick₁ (eqb C Index?) Indexes
-    (λ z. pick₁ (eqb C IsNot?) IsNots
+    (λ z. pick₁ (eqb C IsRight) IsRights
     (λ z. pick₁ (eqb C Not) Nots
     (λ z. pick₁ (eqb C Whens?) Paired
     (λ z. pick₁ (eqb C Else?) (Maybe (after (tok ELSE ∷ []))) (λ z v w ts. ⊥))))))))))))))))))))))))))))))))))))))))))))

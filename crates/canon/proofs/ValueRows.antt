@@ -18,16 +18,17 @@ use Rattle.kinds.specs.Fit.{fitText, fits}
 use Rattle.grammar.specs.Classes.{Rows, Exprs?, E, any}
 use Rattle.grammar.specs.RowNames.{row-first-row, row-next-row}
 use Rattle.grammar.specs.NodeNames.{node-list}
-use Rattle.grammar.specs.Rows.{part, butColumn, exprs, selectItems, valuesItems, lines, headsOf, tailsOf, optional}
+use Rattle.grammar.specs.Rows.{part, butColumn, butIs, exprs, selectItems, valuesItems, lines, headsOf, tailsOf, optional}
 use Rattle.grammar.specs.Grammar.{bare, sql, G}
-use Rattle.grammar.specs.Limits.{Around, below, under, members, lastChild, childrenBefore, width, widthOf, begun, isKind, judge}
+use Rattle.grammar.specs.Limits.{Around, members, lastChild, childrenBefore, width, widthOf, isKind, begun, judge}
 use Rattle.grammar.specs.Reading.{Val, empty, valueOf, value}
 use Rattle.grammar.specs.Writing.{Piece, tok, within, at, each, rows, piece}
+use Rattle.canon.proofs.Counted.{below, under, all-app, all-right}
 use Rattle.canon.proofs.Folds.{P, mean, flat}
 use Rattle.canon.proofs.Says.{Operand, Run, Rowed}
 use Rattle.canon.proofs.Forms.{Clean, Stands, gone, here, Result, grow}
 use Rattle.canon.proofs.Places.{by-mem, open-flat}
-use Rattle.canon.proofs.Place.{all-app, all-right, place}
+use Rattle.canon.proofs.Place.{place}
 use Rattle.canon.proofs.Rebuild.{said, regrow, unheard, silent, clean-any, keep-clean}
 use Rattle.canon.proofs.Steps.{HeadStep, TailStep, HeadSays, plainly, head-step, only-class, left-pack, open-tests}
 
@@ -114,7 +115,7 @@ next-clean c l t u u' e es i j z b s x s' y h =
     all-app (faultsIn Around under judge l c 0) (judge c nextRow l t nil ∷ faultsKids Around under judge (add f3 (leaf u')) c nextRow l t) z (begun-judge c l t b, k4)
 
 next-found : (k : ℕ) → mem k (COMMA ∷ []) ≡ true → lookup Rows k (sql .tails) ≡ some nextRow
-unfolding sql lines butColumn exprs selectItems valuesItems headsOf tailsOf pick both mem lookup
+unfolding sql lines butColumn butIs exprs selectItems valuesItems headsOf tailsOf pick both mem lookup
 next-found k m = by-mem (λ k. lookup Rows k (sql .tails) ≡ some nextRow) (COMMA ∷ []) (refl, tt) k m
 
 no-rows : G .nullable (any Rows) ≡ true → ⊥
@@ -133,7 +134,7 @@ next-begun c (here (whole o p)) = refl
 
 pub next-row-step : TailStep (record { of = Rows ∷ []; at = COMMA ∷ []; row = nextRow })
 unfolding grow regrow said open-tests exprs widthOf width members lastChild childrenBefore toks
-next-row-step D m f c q l x a b d zl t n h k z =
+next-row-step D m f c q l x a b d i zl t n h k z =
     let i = only-class Rows D m in
     let L = left-pack Rows q c l refl (subst (λ X. Result X q c l) (sym i) x) in
     let X = place (E 1) (below nextRow c) (k .2 .1) in let Y = place (any Exprs?) (below nextRow c) (k .2 .2 .1) in

@@ -14,11 +14,13 @@ use Rattle.kinds.specs.Kinds.{ID, KWID, STRING, SEMI, AS, ALL, ASC}
 use Rattle.kinds.specs.Classes.{names}
 use Rattle.grammar.specs.Classes.{Name, Semi?, Way?, Distinct?, Alias?, any}
 use Rattle.grammar.specs.RowNames.{row-semi, row-asc, row-all, row-source-as, row-source-bare}
-use Rattle.grammar.specs.Rows.{part, butColumn, exprs, selectItems, valuesItems, lines, headsOf, tailsOf, optional}
+use Rattle.grammar.specs.Rows.{part, butColumn, butIs, exprs, selectItems, valuesItems, lines, headsOf, tailsOf, optional}
 use Rattle.grammar.specs.Grammar.{sql, G}
-use Rattle.grammar.specs.Limits.{Around, below, begun, judge}
+use Rattle.grammar.specs.Limits.{Around, begun, judge}
 use Rattle.grammar.specs.Reading.{Val, empty, says, choose, valueOf, value, values}
 use Rattle.grammar.specs.Writing.{tok, at}
+use Rattle.canon.proofs.Place.{floor-none}
+use Rattle.canon.proofs.Counted.{below}
 use Rattle.canon.proofs.Says.{all-word, asc-way, Aliases, no-alias, as-alias, bare-alias, SaysOf, Says}
 use Rattle.canon.proofs.Forms.{gone, capped, nameRow, More, Pack, Wide, Result, proper, Kid, there, grow}
 use Rattle.canon.proofs.Places.{AllOf, by-mem, open-all}
@@ -34,7 +36,7 @@ pub vanish : (C code : ℕ) (ks : List ℕ) → G .nullable (any C) ≡ true →
 unfolding grow toks value values capOf faultsIn
 vanish C code ks n says more wide D m f c t i h k z = subst (λ X. Result X (part code []) c (node (part code []) nil t nil)) (only-class C D m)
     (plainly C (part code []) c (node (part code []) nil t nil) refl (wide (node (part code []) nil t nil))
-    (record { y = nil; stands = gone n; clean = tt; caps = λ a b. refl; fit = tt; says = says t; more = more c (node (part code []) nil t nil) }))
+    (record { y = nil; stands = gone n; clean = tt; caps = λ a b. floor-none (any C) refl; fit = tt; says = says t; more = more c (node (part code []) nil t nil) }))
 
 pub all-step : HeadStep (record { of = Distinct? ∷ []; at = ALL ∷ []; row = part row-all [] })
 unfolding open-all nullOf sql optional
@@ -69,12 +71,12 @@ pub found-one : (C : ℕ) (ks : List ℕ) (r : Row) (es : List Line) → AllOf (
 found-one C ks r es all D k m n = subst (λ X. lookup X k es ≡ some r) (only-class C D m) (one-of C k r es ks all n)
 
 name-found : Finds nameLine (sql .heads)
-unfolding sql lines butColumn exprs selectItems valuesItems headsOf tailsOf pick both mem lookup
+unfolding sql lines butColumn butIs exprs selectItems valuesItems headsOf tailsOf pick both mem lookup
 name-found = found-one Name names nameRow (sql .heads) (refl, (refl, (refl, (refl, (refl, tt)))))
 
 pub name-kid : (c : Around) (t : Tok) → mem (t .kind) names ≡ true → Fit t → Kid (any Name) c (node nameRow nil t nil)
 unfolding grow faultsIn faultsKids judge begun open-tests proper choose below
-name-kid c t m h = there {q = nameRow} refl refl refl (name-step Name refl name-found c t m h tt (refl, tt))
+name-kid c t m h = there {q = nameRow} refl refl refl (λ a b. refl) (name-step Name refl name-found c t m h tt (refl, tt))
 
 -- ── a bare alias of a source ──
 abbrev sourceAs : Row
@@ -88,7 +90,7 @@ unfolding open-tests
 source-as-step = head-step sourceAsLine refl ((refl, λ c t u ks m f. tt, source-as-says, λ t f. tt), tt)
 
 source-as-found : Finds sourceAsLine (sql .heads)
-unfolding sql lines butColumn exprs selectItems valuesItems headsOf tailsOf pick both mem lookup
+unfolding sql lines butColumn butIs exprs selectItems valuesItems headsOf tailsOf pick both mem lookup
 source-as-found = found-one Alias? (AS ∷ []) sourceAs (sql .heads) (refl, tt)
 
 abbrev sourceBare : Row

@@ -1,2 +1,3 @@
+pub mod ToTheRight
 pub mod Promise
 pub mod Calls

@@ -18,7 +18,7 @@ use Rattle.kinds.specs.Classes.{isBareAlias}
 use Rattle.grammar.specs.Classes.{Name, Column, Columns?, any}
 use Rattle.grammar.specs.RowNames.{row-star, row-as, row-bare}
 use Rattle.grammar.specs.NodeNames.{node-star, node-column}
-use Rattle.grammar.specs.Rows.{begins, goes, part, once, butColumn, exprs, selectItems, valuesItems, lines, headsOf, tailsOf}
+use Rattle.grammar.specs.Rows.{begins, goes, part, once, butColumn, butIs, exprs, selectItems, valuesItems, lines, headsOf, tailsOf}
 use Rattle.grammar.specs.Grammar.{sql}
 use Rattle.grammar.specs.Limits.{Around, isQuery, below, judge}
 use Rattle.grammar.specs.Nodes.{count, Rec, rec, records}
@@ -57,14 +57,14 @@ takes-column : Takes (any Column) 0
 takes-column = record { among = column-among; enough = λ k a b. omega arith; loose = λ k a b. absurd (omega (arith, b)); column = λ e. refl; other = λ a e. omega (arith, a); most = omega arith }
 
 as-at : lookup Column AS (sql .tails) ≡ some asRow
-unfolding sql lines butColumn exprs selectItems valuesItems headsOf tailsOf pick both mem lookup
+unfolding sql lines butColumn butIs exprs selectItems valuesItems headsOf tailsOf pick both mem lookup
 as-at = refl
 
 aliasTest : ℕ → Bool
 aliasTest k = pick (eqb k AS) true (λ w. pick (isBareAlias k) (eqFound (lookup Column k (sql .tails)) (some bareRow)) (λ w. notB (mem k (others Column))))
 
 aliases-right : below? BOUND aliasTest ≡ true
-unfolding aliasTest below? others notB isBareAlias eqFound eqRow eqItems eqItem eqNt sql lines butColumn exprs selectItems valuesItems headsOf tailsOf pick both mem lookup
+unfolding aliasTest below? others notB isBareAlias eqFound eqRow eqItems eqItem eqNt sql lines butColumn butIs exprs selectItems valuesItems headsOf tailsOf pick both mem lookup
 aliases-right = refl
 
 bare-at : (k : ℕ) → k < BOUND → eqb k AS ≡ false → isBareAlias k ≡ true → lookup Column k (sql .tails) ≡ some bareRow
@@ -113,7 +113,7 @@ module _ (K T : List ℕ) (good : Good K T) (c : Around) where
   on-alias : (y : Tree) (said n : ℕ) (q : Row) (e : ExprTree y said) → lookup Column (kindAt K n) (sql .tails) ≡ some q → q .left ≡ 1
       → again K T c (any Column) y n ≡ rests K T (record { c = c; A = any Column; r = q; l = y; t = tokAt K T n }) (q .items) nil (n + 1)
   on-alias y said n q e l o = again-on K T good c (any Column) y said n q e (cont-some sql (any Column) (e .r) (capOf (e .k)) (kindAt K n) q l (le-leb 0 (q .str) (omega arith))
-      (le-leb (q .left) (e .r .str) (omega (arith, o, e .str, e .some))) (le-leb (q .left) (min (e .r .cap) (capOf (e .k))) (omega (arith, o, e .cap, e .end-cap))))
+      (le-leb (q .left) (e .r .str) (omega (arith, o, e .leaves, e .some))) (le-leb (q .left) (min (e .r .cap) (capOf (e .k))) (omega (arith, o, e .leaves, e .some))))
 
   -- nothing goes on from an alias
   alias-ends : (y : Tree) (u : Tok) (q : Row) (k : Tree) (n : ℕ) → q .str ≡ 0 → rests K T (record { c = c; A = any Column; r = q; l = y; t = u }) [] k n ≡ got (node q y u k) n (from K T n)
@@ -164,7 +164,7 @@ module _ (K T : List ℕ) (good : Good K T) (c : Around) where
     exprd-told : (a said n : ℕ) (rs : List Rec) → (y : Tree) × (calls K T c (any Column) at ≡ again K T c (any Column) y a) × Exprd y said 0 × Stops K T 0 said a × (rs ≡ recs (value y))
         → Columned at (choose (eqb said 0) (done a said n rs) (bind (aliasW K T a) (λ b mode m qs. done b 0 0 (over 7 mode 2 0 (rs ++ qs)))))
     unfolding again
-    exprd-told a said n rs (y, e, inl t, st, r) = told-choose (eqb said 0) _ _
+    exprd-told a said n rs (y, e, inl (t, h), st, r) = told-choose (eqb said 0) _ _
         (λ z. absurd (let s = eqb-eq said 0 z in omega (arith, t .some, s)))
         (λ z. told-bind (aliasW K T a) _ (alias-told y said a t st)
         (λ b mode m qs p. told-done b 0 0 _ (
@@ -190,7 +190,7 @@ module _ (K T : List ℕ) (good : Good K T) (c : Around) where
 
 -- ── the list of columns ──
 columns-list : ListClass Columns? COMMA nextColumn
-unfolding sql lines butColumn exprs selectItems valuesItems headsOf tailsOf pick both mem lookup kindsOf isQuery
+unfolding sql lines butColumn butIs exprs selectItems valuesItems headsOf tailsOf pick both mem lookup kindsOf isQuery
 columns-list = record { begins = Columns-at-COMMA; only = firsts-Columns; goes = refl; goes-only = refl; may = Columns-may; weak = refl; loose = refl; no-query = refl }
 
 columns-rule : ListRule nextColumn (any Column) column

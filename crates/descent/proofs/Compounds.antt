@@ -16,7 +16,7 @@ use Rattle.kinds.specs.Kinds.{ID, NULL, LP, CASE, CAST, EXISTS}
 use Rattle.kinds.specs.Strength.{prefixOf}
 use Rattle.kinds.specs.Classes.{isName, literalCode}
 use Rattle.grammar.specs.Sizes.{LEVELS}
-use Rattle.grammar.specs.Limits.{Around, isQuery}
+use Rattle.grammar.specs.Limits.{Around, isQuery, isExpression}
 use Rattle.grammar.specs.Reading.{value}
 use Rattle.descent.proofs.Places.{kindAt, tokAt, wrong, OpenRow, calls, rests, again}
 use Rattle.descent.proofs.Named.{parensRow, existsRow, caseRow, castRow, headRow, own}
@@ -24,7 +24,7 @@ use Rattle.descent.proofs.Walk.{Walked, deeper, notB, κ, wrongAt, expr
 use Rattle.descent.proofs.Grown.{recs}
 use Rattle.descent.proofs.SameRow.{below?, throughout}
 use Rattle.descent.proofs.TableFacts.{BOUND}
-use Rattle.descent.proofs.Means.{plainCode, Exprd, Takes, Told, Good, CompoundOK, PrefixOK, RowOK, ParenOK, ExistsOK, CaseOK, CastOK}
+use Rattle.descent.proofs.Means.{plainCode, strOf, Exprd, Takes, Told, Good, CompoundOK, PrefixOK, RowOK, ParenOK, ExistsOK, CaseOK, CastOK}
 use Rattle.descent.proofs.Common.{told-map, told-choose, told-stop}
 use Rattle.descent.proofs.Strong.{below-strong, not-true}
 use Rattle.descent.proofs.Heads.{head-on, head-none}
@@ -55,30 +55,31 @@ token-rows C = (refl, refl, refl, refl)
 
 module _ (K T : List ℕ) (good : Good K T) where
   -- an operand by a row of strength 12
-  pub operand-by : (r : Row) (w : ℕ → Around → Walked) → r .str ≡ 12 → r .cap ≡ 99 → isQuery (r .code) ≡ false → plainCode (r .code) ≡ true → RowOK K T r w
+  pub operand-by : (r : Row) (w : ℕ → Around → Walked) → r .str ≡ 12 → r .cap ≡ 99 → isExpression r ≡ true → isQuery (r .code) ≡ false → plainCode (r .code) ≡ true → RowOK K T r w
       → (at : ℕ) (c : Around) (s : ℕ) (A : Nt) → Takes A s → mem (κ K T at) (own (A .of)) ≡ false → headRow (A .of) (κ K T at) ≡ some r → c .level ≤ LEVELS
       → Told (w (at + 1) (deeper c))
       (λ a said n rs. (y : Tree) × (calls K T c A at ≡ again K T c A y a) × Exprd y said s × (rs ≡ recs (value y)))
       (λ m p. calls K T c A at ≡ refused m p)
-  unfolding again
-  operand-by r w str cap nq pl ok at c s A t o h l = told-map (w (at + 1) (deeper c)) (ok (at + 1) (deeper c) F refl refl (below-strong r c has nq))
+  unfolding again strOf
+  operand-by r w str cap ex nq pl ok at c s A t o h l = told-map (w (at + 1) (deeper c)) (ok (at + 1) (deeper c) F refl refl (below-strong r c ex nq))
       (λ a said n rs q. let k = q .0 in (
         node r nil (tokAt K T at) k,
         on ∙ q .1,
-        inl (record {
-          r = r;
-          l = nil;
-          t = tokAt K T at;
-          k = k;
-          is = refl;
-          str = str ∙ sym (q .2);
-          some = omega (arith, q .2);
-          cap = omega (arith, cap);
-          end-cap = q .3;
-          plain = pl;
-          silent = q .4;
-          single = q .5;
-        }),
+        inl (
+          record {
+            r = r;
+            l = nil;
+            t = tokAt K T at;
+            k = k;
+            is = refl;
+            leaves = omega (arith, str, cap, q .2, q .3);
+            some = omega (arith, q .2);
+            plain = pl;
+            silent = q .4;
+            single = q .5;
+          },
+          omega (arith, str, t .most),
+        ),
         q .6,
       ))
       (λ m p e. on ∙ e)
@@ -96,13 +97,13 @@ module _ (K T : List ℕ) (good : Good K T) where
   unfolding exprW isQuery pick plainCode mem notB
   compound-ok f paren case cast exists prefix at c s A t o n l x =
       told-choose (eqb (kindAt K at) LP) (parenW K T f (at + 1) (deeper c)) _
-      (λ z. operand-by parensRow (parenW K T f) refl refl refl refl paren at c s A t o (head LP (token-rows (A .of) .0) z) l)
+      (λ z. operand-by parensRow (parenW K T f) refl refl refl refl refl paren at c s A t o (head LP (token-rows (A .of) .0) z) l)
       (λ a. told-choose (eqb (kindAt K at) CASE) (caseW K T f (at + 1) (deeper c)) _
-      (λ z. operand-by caseRow (caseW K T f) refl refl refl refl case at c s A t o (head CASE (token-rows (A .of) .1) z) l)
+      (λ z. operand-by caseRow (caseW K T f) refl refl refl refl refl case at c s A t o (head CASE (token-rows (A .of) .1) z) l)
       (λ b. told-choose (eqb (kindAt K at) CAST) (castW K T f (at + 1) (deeper c)) _
-      (λ z. operand-by castRow (castW K T f) refl refl refl refl cast at c s A t o (head CAST (token-rows (A .of) .2) z) l)
+      (λ z. operand-by castRow (castW K T f) refl refl refl refl refl cast at c s A t o (head CAST (token-rows (A .of) .2) z) l)
       (λ d. told-choose (eqb (kindAt K at) EXISTS) (existsW K T f (at + 1) (deeper c)) _
-      (λ z. operand-by existsRow (existsW K T f) refl refl refl refl exists at c s A t o (head EXISTS (token-rows (A .of) .3) z) l)
+      (λ z. operand-by existsRow (existsW K T f) refl refl refl refl refl exists at c s A t o (head EXISTS (token-rows (A .of) .3) z) l)
       (λ e. told-choose (ltb 0 (prefixOf (kindAt K at))) (signW K T f at c s) (wrongAt K T at)
       (λ z. prefix at c s A t o n l (ltb-true 0 (prefixOf (kindAt K at)) z))
       (λ z. told-stop (wrong (kindAt K at)) at (head-none K T good at c s A t o (compound-none (A .of) (kindAt K at) (good .bound at) x a b d e z) n))))))

@@ -45,7 +45,7 @@ module _ (K T : List ℕ) where
     ops = λ a b c d e g h i j k. told-spent;
     operator = λ a b c d e g h i j k l m. told-spent;
     negated = λ a b c d e g h i. told-spent;
-    binary = λ a b c d e g h. told-spent;
+    binary = λ a b c d e g h i. told-spent;
     between = λ a b c d e g h i. told-spent;
     after = λ a b c d e g h i j k l m. told-spent;
     word = λ a b c d e g h. told-spent;

@@ -59,7 +59,7 @@ module _ (K T : List ℕ) (good : Good K T) where
 
   pub expr-ends : (c : Around) (A : Nt) (y : Tree) (s said n : ℕ) → mem (A .of) exprs ≡ true → s ≤ 1 → ExprTree y said → Stops K T s said n → mem (kindAt K n) (others (A .of)) ≡ false
       → again K T c A y n ≡ got y n (from K T n)
-  expr-ends c A y s said n m h e st o = again-got K T good c A y said n e (stops-in K T good A (e .r) (capOf (e .k)) s said n m h (e .str) st o)
+  expr-ends c A y s said n m h e st o = again-got K T good c A y said n e (stops-in K T good A (e .r) (capOf (e .k)) s said n m h (e .leaves) st o)
 
   pub absent-in : (c : Around) (C n : ℕ) → mem C exprs ≡ true → mem (kindAt K n) (own C) ≡ false → nullOf sql (any C) ≡ true → beginsExpr (kindAt K n) ≡ false
       → calls K T c (any C) n ≡ got nil n (from K T n)
@@ -74,7 +74,7 @@ module _ (K T : List ℕ) (good : Good K T) where
       where
         no-star : (a said n : ℕ) (rs : List Rec) → (y : Tree) × (calls K T c (any C) at ≡ again K T c (any C) y a) × Exprd y said 1 × Stops K T 1 said a × (rs ≡ recs (value y))
             → (y : Tree) × (calls K T c (any C) at ≡ again K T c (any C) y a) × ExprTree y said × Stops K T 1 said a × (rs ≡ recs (value y))
-        no-star a said n rs (y, e, inl t, st, r) = (y, e, t, st, r)
+        no-star a said n rs (y, e, inl t, st, r) = (y, e, t .0, st, r)
         no-star a said n rs (y, e, inr z, st, r) = absurd (omega (arith, z .1))
 
     pub expr-absent : beginsExpr (kindAt K at) ≡ false → Told (exprW K T f at c 1) (λ a said n rs. ⊥) (λ m p. (m ≡ wrong (kindAt K at)) × (p ≡ at))

@@ -20,11 +20,11 @@ use Rattle.kinds.specs.Classes.{isName, beginsExpr, literalCode}
 use Rattle.grammar.specs.Rows.{exprs}
 use Rattle.grammar.specs.Grammar.{sql}
 use Rattle.grammar.specs.Sizes.{LEVELS}
-use Rattle.grammar.specs.Limits.{Around, begun, judge}
+use Rattle.grammar.specs.Limits.{Around, begun, judge, isExpression}
 use Rattle.grammar.specs.Nodes.{Rec}
 use Rattle.grammar.specs.Reading.{choose}
 use Rattle.descent.proofs.Places.{kindAt, tokAt, wrong, calls}
-use Rattle.descent.proofs.Named.{prefixRow, restOf, headRow, own}
+use Rattle.descent.proofs.Named.{notBefore, prefixRow, restOf, headRow, own}
 use Rattle.descent.proofs.Walk.{stop, wrongAt, tooDeepW, exprW, leafW, operandW, opsW}
 use Rattle.descent.proofs.SameRow.{below?, throughout}
 use Rattle.descent.proofs.TableFacts.{BOUND}
@@ -33,43 +33,43 @@ use Rattle.descent.proofs.Means.{Takes, Told, Good, ExprOK, LeafOK, Com
 use Rattle.descent.proofs.Common.{told-bind, told-onto, told-choose, told-stop}
 use Rattle.descent.proofs.Heads.{isThere, begins-head, head-in, head-none, head-weak}
 
--- an expression begins by a row of strength 3 at NOT, of 11 or more elsewhere
+-- an expression begins by a row of strength 10 at NOT, of 11 or more elsewhere
 strongTest : ℕ → Bool
-strongTest k = allb (λ C. onRow (headRow C k) (λ r. both (leb 1 (r .str)) (leb (pick (eqb k NOT) 3 (λ w. 11)) (r .str))) (λ w. true)) exprs
+strongTest k = allb (λ C. onRow (headRow C k) (λ r. both (isExpression r) (leb (pick (eqb k NOT) 10 (λ w. 11)) (r .str))) (λ w. true)) exprs
 
 strong-right : below? BOUND strongTest ≡ true
-unfolding strongTest below? headRow restOf prefixOf literalCode isName exprs onRow pick both allb
+unfolding strongTest below? headRow prefixRow restOf prefixOf literalCode isName exprs onRow pick both allb
 strong-right = refl
 
-head-strong : (C : ℕ) → mem C exprs ≡ true → (k : ℕ) → k < BOUND → (r : Row) → headRow C k ≡ some r → (1 ≤ r .str) × (pick (eqb k NOT) 3 (λ w. 11) ≤ r .str)
+head-strong : (C : ℕ) → mem C exprs ≡ true → (k : ℕ) → k < BOUND → (r : Row) → headRow C k ≡ some r → (isExpression r ≡ true) × (pick (eqb k NOT) 10 (λ w. 11) ≤ r .str)
 unfolding strongTest onRow
-head-strong C m k h r e = let a = rw e at (all-mem (λ C. onRow (headRow C k) (λ r. both (leb 1 (r .str)) (leb (pick (eqb k NOT) 3 (λ w. 11)) (r .str))) (λ w. true)) exprs C (throughout BOUND strongTest strong-right k h) m) in
-    (leb-le 1 (r .str) (both-l (leb 1 (r .str)) (leb (pick (eqb k NOT) 3 (λ w. 11)) (r .str)) a), leb-le (pick (eqb k NOT) 3 (λ w. 11)) (r .str) (both-r (leb 1 (r .str)) (leb (pick (eqb k NOT) 3 (λ w. 11)) (r .str)) a))
+head-strong C m k h r e = let a = rw e at (all-mem (λ C. onRow (headRow C k) (λ r. both (isExpression r) (leb (pick (eqb k NOT) 10 (λ w. 11)) (r .str))) (λ w. true)) exprs C (throughout BOUND strongTest strong-right k h) m) in
+    (both-l (isExpression r) _ a, leb-le (pick (eqb k NOT) 10 (λ w. 11)) (r .str) (both-r (isExpression r) _ a))
 
-at-NOT : (C : ℕ) → headRow C NOT ≡ some (prefixRow 3)
-unfolding headRow prefixOf pick
+at-NOT : (C : ℕ) → headRow C NOT ≡ some notBefore
+unfolding headRow prefixRow prefixOf pick
 at-NOT C = refl
 
-too-deep-word : (c : Around) (r : Row) (t : Tok) → 1 ≤ r .str → LEVELS < c .level → judge c r nil t nil ≡ 5
+too-deep-word : (c : Around) (r : Row) (t : Tok) → isExpression r ≡ true → LEVELS < c .level → judge c r nil t nil ≡ 5
 unfolding judge begun both pick
-too-deep-word c r t h l = rw (le-leb 1 (r .str) h, lt-ltb LEVELS (c .level) l)
+too-deep-word c r t h l = rw (h, lt-ltb LEVELS (c .level) l)
 
 module _ (K T : List ℕ) (good : Good K T) where
   module _ (at : ℕ) (c : Around) (s : ℕ) (A : Nt) (t : Takes A s) (o : mem (kindAt K at) (own (A .of)) ≡ false) (n : nullOf sql A ≡ true → beginsExpr (kindAt K at) ≡ true) (l : LEVELS < c .level) where
-    enough : (r : Row) → headRow (A .of) (kindAt K at) ≡ some r → both (eqb (kindAt K at) NOT) (ltb 3 s) ≡ false → (1 ≤ r .str) × (s ≤ r .str)
+    enough : (r : Row) → headRow (A .of) (kindAt K at) ≡ some r → both (eqb (kindAt K at) NOT) (ltb 10 s) ≡ false → (1 ≤ r .str) × (s ≤ r .str) × (isExpression r ≡ true)
     unfolding pick both
     enough r e w = let h = head-strong (A .of) (t .among) (kindAt K at) (good .bound at) r e in by-bool (eqb (kindAt K at) NOT)
-        (λ z. let a : 3 ≤ r .str = rw z at (h .1) in let b = ltb-false 3 s (rw z at w) in (h .0, omega (arith, a, b)))
-        (λ z. let a : 11 ≤ r .str = rw z at (h .1) in (h .0, omega (arith, a, t .most)))
+        (λ z. let a : 10 ≤ r .str = rw z at (h .1) in let b = ltb-false 10 s (rw z at w) in (omega (arith, a), omega (arith, a, b), h .0))
+        (λ z. let a : 11 ≤ r .str = rw z at (h .1) in (omega (arith, a), omega (arith, a, t .most), h .0))
 
     too-deep : (P : ℕ → ℕ → ℕ → List Rec → Type 0) → Told (tooDeepW K T at s) P (λ m p. calls K T c A at ≡ refused m p)
     unfolding tooDeepW isThere
     too-deep P = told-choose (beginsExpr (kindAt K at)) _ (wrongAt K T at)
-        (λ z. told-choose (both (eqb (kindAt K at) NOT) (ltb 3 s)) (wrongAt K T at) (stop 5 at)
-        (λ w. told-stop (wrong (kindAt K at)) at (head-weak K T good at c s A t o (prefixRow 3) (rw (eqb-eq (kindAt K at) NOT (both-l (eqb (kindAt K at) NOT) (ltb 3 s) w)) (at-NOT (A .of)))
-        (omega arith) (ltb-true 3 s (both-r (eqb (kindAt K at) NOT) (ltb 3 s) w))))
+        (λ z. told-choose (both (eqb (kindAt K at) NOT) (ltb 10 s)) (wrongAt K T at) (stop 5 at)
+        (λ w. told-stop (wrong (kindAt K at)) at (head-weak K T good at c s A t o notBefore (rw (eqb-eq (kindAt K at) NOT (both-l (eqb (kindAt K at) NOT) (ltb 10 s) w)) (at-NOT (A .of)))
+        (omega arith) (ltb-true 10 s (both-r (eqb (kindAt K at) NOT) (ltb 10 s) w))))
         (λ w. told-stop 5 at (by-row (headRow (A .of) (kindAt K at))
-        (λ r e. let h = enough r e w in call-word K T (good .sound) c A at r 4 (head-in K T good at c s A t o r e (h .0) (h .1)) (too-deep-word c r (tokAt K T at) (h .0) l))
+        (λ r e. let h = enough r e w in call-word K T (good .sound) c A at r 4 (head-in K T good at c s A t o r e (h .0) (h .1)) (too-deep-word c r (tokAt K T at) (h .2) l))
         (λ e. 0≢1 (sym (begins-head (A .of) (t .among) (kindAt K at) (good .bound at) ∙ ap isThere e) ∙ z)))))
         (λ z. told-stop (wrong (kindAt K at)) at (by-row (headRow (A .of) (kindAt K at))
         (λ r e. 0≢1 (sym z ∙ begins-head (A .of) (t .among) (kindAt K at) (good .bound at) ∙ ap isThere e))

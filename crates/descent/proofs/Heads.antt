@@ -20,7 +20,7 @@ use Rattle.grammar.specs.Grammar.{sql}
 use Rattle.grammar.specs.Sizes.{LEVELS}
 use Rattle.grammar.specs.Limits.{Around, isQuery}
 use Rattle.descent.proofs.Places.{kindAt, tokAt, wrong, calls, rests}
-use Rattle.descent.proofs.Named.{restOf, headRow, own}
+use Rattle.descent.proofs.Named.{prefixRow, restOf, headRow, own}
 use Rattle.descent.proofs.Walk.{notB}
 use Rattle.descent.proofs.SameRow.{below?, throughout}
 use Rattle.descent.proofs.TableFacts.{BOUND, heads-in}
@@ -40,7 +40,7 @@ beginsTest : ℕ → Bool
 beginsTest k = allb (λ C. sameB (beginsExpr k) (isThere (headRow C k))) exprs
 
 begins-right : below? BOUND beginsTest ≡ true
-unfolding beginsTest sameB notB isThere below? beginsExpr headRow restOf prefixOf literalCode isName exprs pick both allb
+unfolding beginsTest sameB notB isThere below? beginsExpr headRow prefixRow restOf prefixOf literalCode isName exprs pick both allb
 begins-right = refl
 
 same-b : (a b : Bool) → sameB a b ≡ true → a ≡ b

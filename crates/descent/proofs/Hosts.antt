@@ -16,7 +16,7 @@ use Rattle.kinds.specs.Kinds.{RP, COMMA}
 use Rattle.kinds.specs.Classes.{beginsExpr}
 use Rattle.grammar.specs.Classes.{Paren, Column, Exprs?, Inside?, Args?, E, any}
 use Rattle.grammar.specs.RowNames.{row-more-exprs}
-use Rattle.grammar.specs.Rows.{once, butColumn, exprs, selectItems, valuesItems, lines, headsOf, tailsOf}
+use Rattle.grammar.specs.Rows.{once, butColumn, butIs, exprs, selectItems, valuesItems, lines, headsOf, tailsOf}
 use Rattle.grammar.specs.Grammar.{sql}
 use Rattle.grammar.specs.Limits.{Around, isQuery, below}
 use Rattle.grammar.specs.Nodes.{count, beside, records}
@@ -51,7 +51,7 @@ hostTest : ℕ → Bool
 hostTest C = both (mem C exprs) (both (notB (eqb C Column)) (eqFound (lookup C COMMA (sql .tails)) (some moreRow)))
 
 hosts-right : allb hostTest (Paren ∷ Inside? ∷ Args? ∷ []) ≡ true
-unfolding hostTest notB eqFound eqRow eqItems eqItem eqNt sql lines butColumn exprs selectItems valuesItems headsOf tailsOf pick both allb mem lookup
+unfolding hostTest notB eqFound eqRow eqItems eqItem eqNt sql lines butColumn butIs exprs selectItems valuesItems headsOf tailsOf pick both allb mem lookup
 hosts-right = refl
 
 pub is-host : (C : ℕ) → mem C (Paren ∷ Inside? ∷ Args? ∷ []) ≡ true → Host C
@@ -145,7 +145,7 @@ module _ (K T : List ℕ) (good : Good K T) (f : ℕ) (ok : ExprOK K T f) (at : 
     where
       on-at : {y : Tree} {said : ℕ} (n : ℕ) → kindAt K n ≡ COMMA → (e : ExprTree y said) → contOf sql (any C) (e .r) (capOf (e .k)) (kindAt K n) ≡ some moreRow
       on-at n z e = cont-some sql (any C) (e .r) (capOf (e .k)) (kindAt K n) moreRow (rw z (h .more)) (le-leb 0 0 (omega arith))
-          (le-leb 1 (e .r .str) (omega (arith, e .str, e .some))) (le-leb 1 (min (e .r .cap) (capOf (e .k))) (omega (arith, e .cap, e .end-cap)))
+          (le-leb 1 (e .r .str) (omega (arith, e .leaves, e .some))) (le-leb 1 (min (e .r .cap) (capOf (e .k))) (omega (arith, e .leaves, e .some)))
 
 module _ (K T : List ℕ) (good : Good K T) (f : ℕ) where
   pub host-ok : ExprOK K T f → ListOK K T f → HostOK K T (suc f)

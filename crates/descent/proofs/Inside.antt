@@ -84,21 +84,22 @@ module _ (K T : List ℕ) (good : Good K T) (f : ℕ) where
   abbrev Ends : OpenRow → ℕ → ℕ → ℕ → Walked → Type 0
   Ends F at not pre w = Told w
       (λ a s m rs. (u : Tok) × (x : Tree) × (v : Tok) × (rests K T F (F .r .items) nil at ≡ rests K T F [] (add (add (add nil (leaf u)) x) (leaf v)) a)
-      × (rs ≡ over (choose (isQueryVal (value x)) node-in-query node-in-list) not 2 pre (recs (inside (value x)))) × Single (inside (value x) .nodes))
+      × (rs ≡ over (choose (isQueryVal (value x)) node-in-query node-in-list) not 2 pre (recs (inside (value x)))) × Single (inside (value x) .nodes) × (s ≡ 12))
       (λ m p. rests K T F (F .r .items) nil at ≡ refused m p)
 
   ended : (F : OpenRow) (at not pre : ℕ) (u : Tok) (x : Tree) (a code : ℕ) (rs : List Rec) → mem (F .r .code) (row-word-join ∷ row-next-row ∷ []) ≡ false
       → rests K T F (F .r .items) nil at ≡ rests K T F (lit RP ∷ []) (add (add nil (leaf u)) x) a
       → code ≡ choose (isQueryVal (value x)) node-in-query node-in-list → rs ≡ recs (inside (value x)) → Single (inside (value x) .nodes) → Ends F at not pre (endedW K T a code not pre rs)
   unfolding endedW
-  ended F at not pre u x a code rs j e d r sg = told-choose (eqb (kindAt K a) RP) (done (a + 1) 0 0 (over code not 2 pre rs)) (wrongAt K T a)
-      (λ z. told-done (a + 1) 0 0 (over code not 2 pre rs) (
+  ended F at not pre u x a code rs j e d r sg = told-choose (eqb (kindAt K a) RP) (done (a + 1) 12 0 (over code not 2 pre rs)) (wrongAt K T a)
+      (λ z. told-done (a + 1) 12 0 (over code not 2 pre rs) (
         u,
         x,
         tokAt K T a,
         e ∙ lit-got K T (good .sound) F RP [] (add (add nil (leaf u)) x) a (omega arith) (eqb-eq (kindAt K a) RP z) (no-word (F .c) (F .r) (F .l) (F .t) (add (add nil (leaf u)) x) (leaf (tokAt K T a)) j),
         rw (d, r),
         sg,
+        refl,
       ))
       (λ z. told-stop (wrong (kindAt K a)) a (e ∙ lit-wrong K T (good .sound) F RP [] (add (add nil (leaf u)) x) a (omega arith) (eqb-false (kindAt K a) RP z)))
 

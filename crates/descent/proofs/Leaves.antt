@@ -30,7 +30,7 @@ use Rattle.descent.proofs.Grown.{recs}
 use Rattle.descent.proofs.SameRow.{below?, throughout}
 use Rattle.descent.proofs.TableFacts.{BOUND}
 use Rattle.descent.proofs.Steps.{nt-got, nt-refused, call-in, call-absent, row-stop}
-use Rattle.descent.proofs.Means.{Single, plainCode, ExprTree, StarTree, Exprd, Told, Good, LeafOK, callRow, CallOK}
+use Rattle.descent.proofs.Means.{Single, plainCode, strOf, ExprTree, StarTree, Exprd, Told, Good, LeafOK, callRow, CallOK}
 use Rattle.descent.proofs.Common.{told-onto, told-map, told-choose, told-done, part-no-word}
 use Rattle.descent.proofs.NoTails.{ends}
 use Rattle.descent.proofs.Sides.{beside-end, recs-over, one-single}
@@ -93,7 +93,7 @@ module _ (R : ℕ) (t : Tok) where
 
   names-tree : (k : Tree) (said : ℕ) → said ≡ 12 → 99 ≤ capOf k → value (whole k) .num ≡ 0 → Single (value (whole k) .nodes) → ExprTree (whole k) said
   unfolding capOf plainCode notB mem pick
-  names-tree k said e open-end silent single = record { r = namesRow R; l = nil; t = t; k = add nil k; is = refl; str = sym e; some = omega (arith, e); cap = omega arith; end-cap = open-end; plain = refl; silent = silent; single = single }
+  names-tree k said e open-end silent single = record { r = namesRow R; l = nil; t = t; k = add nil k; is = refl; leaves = omega (arith, e, open-end); some = omega (arith, e); plain = refl; silent = silent; single = single }
 
   -- DOT STAR
   abbrev dotStar : ℕ → Tok → Tok → Tree
@@ -163,25 +163,26 @@ module _ (K T : List ℕ) (good : Good K T) where
 
   module _ (f : ℕ) where
     pub leaf-ok : CallOK K T f → LeafOK K T (suc f)
-    unfolding exprW again below isQuery pick value valueOf ruled rules side records count capOf plainCode notB mem
+    unfolding exprW again below isQuery pick value valueOf ruled rules side records count capOf strOf plainCode notB mem
     leaf-ok call at c s A t o nu l x = told-choose (ltb 0 (literalCode (kindAt K at))) (done (at + 1) 12 0 _) _
         (λ z. told-done (at + 1) 12 0 _ (
           node literalRow nil tok nil,
           head-on K T good at c s A t o literalRow (leaf-literal (kindAt K at) (good .bound at) (x .0) (x .1) (A .of) z) (omega arith) (omega (arith, t .most)) refl l,
-          inl (record {
-            r = literalRow;
-            l = nil;
-            t = tok;
-            k = nil;
-            is = refl;
-            str = refl;
-            some = omega arith;
-            cap = omega arith;
-            end-cap = omega arith;
-            plain = refl;
-            silent = refl;
-            single = one-single (literalCode (kindAt K at)) (choose (eqb (kindAt K at) NULL) 0 (getD T at 0)) [];
-          }),
+          inl (
+            record {
+              r = literalRow;
+              l = nil;
+              t = tok;
+              k = nil;
+              is = refl;
+              leaves = refl;
+              some = omega arith;
+              plain = refl;
+              silent = refl;
+              single = one-single (literalCode (kindAt K at)) (choose (eqb (kindAt K at) NULL) 0 (getD T at 0)) [];
+            },
+            omega (arith, t .most),
+          ),
           refl,
         ))
         (λ z. told-choose (both (eqb (kindAt K (at + 1)) LP) (headsCall (kindAt K at))) (onto (nameRec K T at ∷ []) (callW K T f (at + 2) (deeper c))) (onto (nameRec K T at ∷ []) (dottedW K T (at + 1) s))
@@ -190,7 +191,7 @@ module _ (K T : List ℕ) (good : Good K T) where
         (λ a said m rs q. (
           node r nil tok (add nil (node (callRow K T) nil (tokAt K T (at + 1)) (q .0))),
           on z ∙ nt-got K T (good .sound) F (any R) [] nil (at + 1) (e ∙ q .1),
-          inl (names-tree R tok (node (callRow K T) nil (tokAt K T (at + 1)) (q .0)) said (q .2) (omega (arith, q .3)) (q .6 R) (q .5 R)),
+          inl (names-tree R tok (node (callRow K T) nil (tokAt K T (at + 1)) (q .0)) said (q .2) (omega (arith, q .3)) (q .6 R) (q .5 R), omega (arith, t .most)),
           sym (q .4 R),
         ))
         (λ m p h. on z ∙ nt-refused K T (good .sound) F (any R) [] nil (at + 1) (e ∙ h)))
@@ -223,7 +224,7 @@ module _ (K T : List ℕ) (good : Good K T) where
         names-said : (y : Tree) (said : ℕ) (rs : List Rec)
             → ((said ≡ 12) × Names R tok y rs) ⊎ ((said ≡ 0) × (s ≡ 0) × StarTree (whole R tok y) × (recs (value (whole R tok y)) ≡ nameRec K T at ∷ rs))
             → Exprd (whole R tok y) said s × (nameRec K T at ∷ rs ≡ recs (value (whole R tok y)))
-        names-said y said rs (inl h) = (inl (names-tree R tok y said (h .0) (h .1 .0) (h .1 .1) (h .1 .2)), sym (h .1 .3))
+        names-said y said rs (inl h) = (inl (names-tree R tok y said (h .0) (h .1 .0) (h .1 .1) (h .1 .2), omega (arith, t .most)), sym (h .1 .3))
         names-said y said rs (inr h) = (inr (h .0, h .1, h .2), sym (h .3))
 
         in-call : kindAt K (at + 1) ≡ LP → headsCall (kindAt K at) ≡ true → calls K T (deeper c) (any R) (at + 1) ≡ rests K T F2 (callRow K T .items) nil (at + 2)

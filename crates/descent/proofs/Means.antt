@@ -6,7 +6,7 @@ use mathlib.Core.List.{List, [], _∷_, _++_}
 use mathlib.Core.Logic.{_⊎_}
 use mathlib.Core.Option.{some, none}
 use mathlib.Core.Path.{_≡_}
-use Prim.Native.Nat.{ℕ, _+_, _≤_, _<_, _*_}
+use Prim.Native.Nat.{ℕ, _+_, _≤_, _<_, _*_, min}
 use lib.ListN.{length, getD}
 use Rattle.theory.specs.Trees.{Tok, Nt, Item, lit, nt, Row, Tree, nil, add, leaf, node, capOf}
 use Rattle.theory.specs.Table.{mem, enterOf, contOf, nullOf}
@@ -38,17 +38,22 @@ Single ns = (c : ℕ) × (d : ℕ) × (ks : Nodes) × (ns ≡ mk c d ks end)
 unfoldable pub plainCode : ℕ → Bool
 plainCode c = notB (mem c (row-star ∷ row-as ∷ row-bare ∷ row-select ∷ row-values ∷ row-star-args ∷ row-distinct-args ∷ []))
 
--- y is an expression's tree, of strength `said`, from which an operator may go on
+-- the strength of a tree's row
+unfoldable pub strOf : Tree → ℕ
+strOf nil = 0
+strOf (add f x) = 0
+strOf (leaf t) = 0
+strOf (node r l t k) = r .str
+
+-- y is an expression's tree, that leaves `said` to an operator that goes on from it
 pub record ExprTree (y : Tree) (said : ℕ) : Type 0 where
   pub r : Row
   pub l : Tree
   pub t : Tok
   pub k : Tree
   pub is : y ≡ node r l t k
-  pub str : r .str ≡ said
+  pub leaves : min (r .str) (min (r .cap) (capOf k)) ≡ said
   pub some : 1 ≤ said
-  pub cap : 99 ≤ r .cap
-  pub end-cap : 99 ≤ capOf k
   pub plain : plainCode (r .code) ≡ true
   pub silent : value y .num ≡ 0
   pub single : Single (value y .nodes)
@@ -67,7 +72,7 @@ pub record StarTree (y : Tree) : Type 0 where
 
 -- what an expression that is asked at strength s comes to: an expression, or, in a column (s is 0), name DOT STAR, which says 0
 abbrev pub Exprd : Tree → ℕ → ℕ → Type 0
-Exprd y said s = ExprTree y said ⊎ ((said ≡ 0) × (s ≡ 0) × StarTree y)
+Exprd y said s = (ExprTree y said × (s ≤ strOf y)) ⊎ ((said ≡ 0) × (s ≡ 0) × StarTree y)
 
 -- A takes an expression of strength s: 0 for a column, 1 for the other classes that take one, any for the class of expressions
 pub record Takes (A : Nt) (s : ℕ) : Type 0 where
@@ -77,6 +82,13 @@ pub record Takes (A : Nt) (s : ℕ) : Type 0 where
   pub column : s ≡ 0 → A .of ≡ Column
   pub other : 1 ≤ s → A .of ≡ Column → ⊥
   pub most : s ≤ 11
+
+-- it takes it and nothing besides, and must stand: a right operand
+pub record Right (A : Nt) (s : ℕ) : Type 0 where
+  pub takes : Takes A s
+  pub alone : (q : Row) (m k : ℕ) → k < 72 → strengthOf k ≡ 0 → contOf sql A q m k ≡ none
+  pub must : nullOf sql A ≡ false
+  pub some : 1 ≤ s
 
 -- ── results ──
 abbrev pub ToldCase : Walked → (ℕ → ℕ → ℕ → List Rec → Type 0) → (ℕ → ℕ → Type 0) → Type 0
@@ -174,7 +186,7 @@ module _ (K T : List ℕ) where
   abbrev pub Goes : OpenRow → List Item → Tree → ℕ → ℕ → Walked → Type 0
   Goes F is k0 n pre w = Single (value (F .l) .nodes) → length (recs (value (F .l))) ≡ pre
       → Told w
-      (λ a s m rs. (k : Tree) × (rests K T F is k0 n ≡ rests K T F [] k a) × (99 ≤ capOf k)
+      (λ a s m rs. (k : Tree) × (rests K T F is k0 n ≡ rests K T F [] k a) × ((1 ≤ s) × (min (F .r .str) s ≡ min (F .r .str) (capOf k)))
       × (value (node (F .r) (F .l) (F .t) k) .num ≡ 0) × Single (value (node (F .r) (F .l) (F .t) k) .nodes)
       × (recs (value (node (F .r) (F .l) (F .t) k)) ≡ recs (value (F .l)) ++ rs))
       (λ m p. rests K T F is k0 n ≡ refused m p)
@@ -191,8 +203,8 @@ module _ (K T : List ℕ) where
 
   -- a right operand, and the record of a binary operator over both
   abbrev pub BinaryOK : ℕ → Type 0
-  BinaryOK f = (at : ℕ) (c : Around) (s detail pre : ℕ) → 1 ≤ s → s ≤ 11
-      → Reads c (E s) at (binaryW K T f at c s detail pre) (λ x said n rs. (u : ℕ) × ExprTree x u × (rs ≡ over 39 detail 2 pre (recs (value x))))
+  BinaryOK f = (at : ℕ) (c : Around) (s detail pre : ℕ) (A : Nt) → Right A s → mem (κ K T at) (own (A .of)) ≡ false
+      → Reads c A at (binaryW K T f at c s detail pre) (λ x said n rs. ExprTree x said × (s ≤ strOf x) × (rs ≡ over 39 detail 2 pre (recs (value x))))
 
   -- BETWEEN's two bounds, of any row with these items
   abbrev pub BetweenOK : ℕ → Type 0
@@ -200,7 +212,7 @@ module _ (K T : List ℕ) where
       → mem (F .r .code) (row-word-join ∷ row-next-row ∷ []) ≡ false
       → Told (rangeW K T f at c 5 not pre)
       (λ a s m rs. (x : Tree) × (u : Tok) × (z : Tree) × (rests K T F (F .r .items) nil at ≡ rests K T F [] (add (add (add nil x) (leaf u)) z) a)
-      × ((i : ℕ) × ExprTree x i) × ((i : ℕ) × ExprTree z i) × (rs ≡ over 43 not 3 pre (recs (value x) ++ recs (value z))))
+      × ((i : ℕ) × ExprTree x i) × ExprTree z s × (rs ≡ over 43 not 3 pre (recs (value x) ++ recs (value z))) × (5 ≤ strOf z))
       (λ m p. rests K T F (F .r .items) nil at ≡ refused m p)
 
   -- a word of a row, and an expression
@@ -208,7 +220,7 @@ module _ (K T : List ℕ) where
   AfterOK f = (at word : ℕ) (c : Around) (s : ℕ) (F : OpenRow) (is : List Item) (k : Tree) → 0 < word → 1 ≤ s → s ≤ 11 → below (F .r) (F .c) ≡ c
       → mem (F .r .code) (row-word-join ∷ row-next-row ∷ []) ≡ false
       → Told (afterW K T f at word c s)
-      (λ a said m rs. (x : Tree) × (rests K T F (lit word ∷ nt (E s) ∷ is) k at ≡ rests K T F is (add (add k (leaf (tokAt K T at))) x) a) × ExprTree x said × (rs ≡ recs (value x)))
+      (λ a said m rs. (x : Tree) × (rests K T F (lit word ∷ nt (E s) ∷ is) k at ≡ rests K T F is (add (add k (leaf (tokAt K T at))) x) a) × ExprTree x said × (rs ≡ recs (value x)) × (s ≤ strOf x))
       (λ m p. rests K T F (lit word ∷ nt (E s) ∷ is) k at ≡ refused m p)
 
   -- the same, where the token is that word
@@ -224,7 +236,7 @@ module _ (K T : List ℕ) where
       → mem (F .r .code) (row-word-join ∷ row-next-row ∷ []) ≡ false
       → Told (amongW K T f at c not pre)
       (λ a s m rs. (u : Tok) × (x : Tree) × (w : Tok) × (rests K T F (F .r .items) nil at ≡ rests K T F [] (add (add (add nil (leaf u)) x) (leaf w)) a)
-      × (rs ≡ over (choose (isQueryVal (value x)) node-in-query node-in-list) not 2 pre (recs (inside (value x)))) × Single (inside (value x) .nodes))
+      × (rs ≡ over (choose (isQueryVal (value x)) node-in-query node-in-list) not 2 pre (recs (inside (value x)))) × Single (inside (value x) .nodes) × (s ≡ 12))
       (λ m p. rests K T F (F .r .items) nil at ≡ refused m p)
 
   abbrev pub PrefixOK : ℕ → Type 0

@@ -9,13 +9,13 @@ use Rattle.theory.specs.Table.{pick}
 use Rattle.kinds.specs.Kinds.{INDEXED, LP, RP, STAR, AND, NOT, IS, IN, BETWEEN, LIKE-KW, ISNULL, NOTNULL, COLLATE, CASE, WHEN, THEN, END, CAST, AS, EXISTS, SELECT, VALUES, DISTINCT}
 use Rattle.kinds.specs.Strength.{strengthOf, prefixOf}
 use Rattle.kinds.specs.Classes.{isName, literalCode}
-use Rattle.grammar.specs.Classes.{Name, Query, Paren, Column, Not, Inside?, ColRest?, ColDots?, Base?, Args?, IsNot?, NameRest?, Dots?, Whens?, Else?, E, any}
+use Rattle.grammar.specs.Classes.{Name, Query, Paren, Column, Not, IsRight, Inside?, ColRest?, ColDots?, Base?, Args?, NameRest?, Dots?, Whens?, Else?, E, any, afterIs}
 use Rattle.grammar.specs.RowNames.{row-names, row-prefix, row-is, row-like, row-in, row-between, row-not, row-null-test, row-collate, row-literal, row-parens, row-exists, row-case, row-cast}
-use Rattle.grammar.specs.Rows.{strong, binary}
+use Rattle.grammar.specs.Rows.{strong, binary, running}
 
 -- ── an operator after an operand ──
 abbrev pub isRow : Row
-isRow = strong 4 row-is (nt (any IsNot?) ∷ nt (E 5) ∷ [])
+isRow = strong 4 row-is (nt afterIs ∷ [])
 
 abbrev pub likeRow : Row
 likeRow = strong 4 row-like (nt (E 5) ∷ [])
@@ -48,8 +48,15 @@ opRow k =
     (λ w. pick (eqb k COLLATE) collateRow (λ w. binary (strengthOf k)))))))))
 
 -- ── the beginning of an expression ──
-abbrev pub prefixRow : ℕ → Row
-prefixRow s = strong s row-prefix (nt (E s) ∷ [])
+abbrev pub notBefore : Row
+notBefore = running 10 3 row-prefix (nt (E 3) ∷ [])
+
+abbrev pub signRow : Row
+signRow = strong 11 row-prefix (nt (E 11) ∷ [])
+
+-- the row of a prefix's kind
+unfoldable pub prefixRow : ℕ → Row
+prefixRow k = pick (eqb k NOT) notBefore (λ w. signRow)
 
 abbrev pub parensRow : Row
 parensRow = strong 12 row-parens (nt (any Paren) ∷ lit RP ∷ [])
@@ -77,7 +84,7 @@ restOf C k = pick (eqb C Column) (pick (eqb k INDEXED) ColDots? (λ w. ColRest?)
 -- the row with which an expression begins at a kind, in a class that takes one
 unfoldable pub headRow : ℕ → ℕ → Option Row
 headRow C k =
-    pick (ltb 0 (prefixOf k)) (some (prefixRow (prefixOf k)))
+    pick (ltb 0 (prefixOf k)) (some (prefixRow k))
     (λ w. pick (ltb 0 (literalCode k)) (some literalRow)
     (λ w. pick (isName k) (some (namesRow (restOf C k)))
     (λ w. pick (eqb k LP) (some parensRow)
@@ -90,4 +97,5 @@ unfoldable pub own : ℕ → List ℕ
 own C = pick (eqb C Column) (STAR ∷ [])
     (λ w. pick (eqb C Args?) (STAR ∷ DISTINCT ∷ [])
     (λ w. pick (eqb C Paren) (SELECT ∷ VALUES ∷ [])
-    (λ w. pick (eqb C Inside?) (SELECT ∷ VALUES ∷ []) (λ w. []))))
+    (λ w. pick (eqb C Inside?) (SELECT ∷ VALUES ∷ [])
+    (λ w. pick (eqb C IsRight) (NOT ∷ []) (λ w. [])))))

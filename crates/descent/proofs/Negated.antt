@@ -20,13 +20,13 @@ use Rattle.grammar.specs.Limits.{Around, isQuery, below}
 use Rattle.grammar.specs.Nodes.{end, count, beside, rec, records}
 use Rattle.grammar.specs.Reading.{Val, empty, side, cat, one, choose, isQueryVal, inside, rules, ruled, valueOf, value, _#_}
 use Rattle.descent.proofs.Places.{kindAt, tokAt, wrong, OpenRow, calls, rests}
-use Rattle.descent.proofs.Named.{notRow}
+use Rattle.descent.proofs.Named.{own, notRow}
 use Rattle.descent.proofs.Walk.{Walked, done, over, wrongAt, exprW, binaryW, rangeW, amongW}
 use Rattle.descent.proofs.Steps.{nt-got, nt-refused, call-in, call-wrong, row-stop}
 use Rattle.descent.proofs.Growing.{records-beside, count-beside}
 use Rattle.descent.proofs.ClassFacts.{out, firsts-Not, Not-at-LIKE-KW, Not-at-IN, Not-at-BETWEEN, Not-at-NULL, Not-may}
 use Rattle.descent.proofs.Means.{Single, Good, Goes, NegatedOK, BinaryOK, BetweenOK, InsideOK}
-use Rattle.descent.proofs.Common.{told-map, told-choose, told-done, told-stop, part-no-word}
+use Rattle.descent.proofs.Common.{right-E, told-map, told-choose, told-done, told-stop, part-no-word}
 use Rattle.descent.proofs.NoTails.{plainClasses, ends}
 use Rattle.descent.proofs.Sides.{single-count, beside-end}
 use Rattle.descent.proofs.Strong.{below-part, expr-cap}
@@ -101,7 +101,7 @@ module _ (K T : List ℕ) (good : Good K T) (f : ℕ) (at : ℕ) (c : Around) (p
       (λ a s m rs q. let k = add (add (add nil (leaf (q .0))) (q .1)) (leaf (q .2)) in let x = inside (value (q .1)) in let o = over-in (tokAt K T at) (leaf (q .0)) (q .1) (leaf (q .2)) in
       let g = made (choose (isQueryVal (value (q .1))) node-in-query node-in-list) 1 2 pre (x ∷ []) (x .nodes) (node' (node notIn nil (tokAt K T at) k)) (value (F .l)) rs (o .0) (o .1)
       (beside-end (x .nodes)) (ap (λ i. i + 1) (single-count (x .nodes) (q .5))) sg len (q .4) in
-      (add nil (node notIn nil (tokAt K T at) k), whole-part notIn k a (on ∙ q .3), omega arith, g .0, g .1, g .2))
+      (add nil (node notIn nil (tokAt K T at) k), whole-part notIn k a (on ∙ q .3), rw (isNot, q .6) (omega arith, refl), g .0, g .1, g .2))
       (λ m p h. nt-refused K T (good .sound) F (any Not) [] nil at (rw b (on ∙ h)))
 
   negated-between : BetweenOK K T f → kindAt K at ≡ BETWEEN → Comes (rangeW K T f (at + 1) c 5 1 pre)
@@ -111,30 +111,30 @@ module _ (K T : List ℕ) (good : Good K T) (f : ℕ) (at : ℕ) (c : Around) (p
       (λ a s m rs q. let x = q .0 in let z = q .2 in let k = add (add (add nil x) (leaf (q .1))) z in let o = over-between (tokAt K T at) (q .1) x z in
       let ns = beside (value x .nodes) (value z .nodes) in
       let g = made node-between 1 3 pre (cat (value x ∷ empty ∷ value z ∷ []) ∷ []) ns (node' (node notBetween nil (tokAt K T at) k)) (value (F .l)) rs (o .0) (o .1)
-      (beside-end (side (value x ∷ empty ∷ value z ∷ [])) ∙ bounds-side (value x) (value z)) (bounds-count (value x) (value z) (q .4 .1 .single) (q .5 .1 .single)) sg len
+      (beside-end (side (value x ∷ empty ∷ value z ∷ [])) ∙ bounds-side (value x) (value z)) (bounds-count (value x) (value z) (q .4 .1 .single) (q .5 .single)) sg len
       (q .6 ∙ ap (over node-between 1 3 pre) (sym (records-beside (value x .nodes) (value z .nodes)))) in
-      let h = expr-cap z (q .5 .0) (q .5 .1) in
-      (add nil (node notBetween nil (tokAt K T at) k), whole-part notBetween k a (on ∙ q .3), omega (arith, h), g .0, g .1, g .2))
+      let h = expr-cap z s 5 4 (q .5) (q .7) (omega arith) in
+      (add nil (node notBetween nil (tokAt K T at) k), whole-part notBetween k a (on ∙ q .3), (q .5 .some, rw isNot (omega (arith, h))), g .0, g .1, g .2))
       (λ m p h. nt-refused K T (good .sound) F (any Not) [] nil at (rw b (on ∙ h)))
 
   negated-like : BinaryOK K T f → kindAt K at ≡ LIKE-KW → Comes (binaryW K T f (at + 1) c 5 (300 + getD T at 0) pre)
-  unfolding isQuery pick mem capOf side
+  unfolding isQuery pick mem own capOf side
   negated-like ok e sg len = let on = begun-part notLike (rw e Not-at-LIKE-KW) refl refl in let b' = below-part notLike c refl refl in
-      told-map (binaryW K T f (at + 1) c 5 (300 + getD T at 0) pre) (ok (at + 1) c 5 (300 + getD T at 0) pre (omega arith) (omega arith))
-      (λ a s m rs q. let x = q .0 in let t = q .2 .1 in let o = over-like (tokAt K T at) x in
+      told-map (binaryW K T f (at + 1) c 5 (300 + getD T at 0) pre) (ok (at + 1) c 5 (300 + getD T at 0) pre (E 5) (right-E 5 (omega arith) (omega arith)) refl)
+      (λ a s m rs q. let x = q .0 in let t = q .2 .0 in let o = over-like (tokAt K T at) x in
       let g = made node-binary (300 + getD T at 0) 2 pre (cat (value x ∷ []) ∷ []) (value x .nodes) (node' (node notLike nil (tokAt K T at) (add nil x))) (value (F .l)) rs (o .0) (o .1)
       (beside-end (side (value x ∷ [])) ∙ beside-end (value x .nodes)) (ap (λ i. i + 1) (single-count (value x .nodes) (t .single))) sg len (q .2 .2) in
-      let h = expr-cap x (q .2 .0) t in
-      (add nil (node notLike nil (tokAt K T at) (add nil x)), whole-part notLike (add nil x) a (on ∙ nt-got K T (good .sound) (inner notLike) (E 5) [] nil (at + 1) (rw b' (q .1))), omega (arith, h), g .0, g .1, g .2))
+      let h = expr-cap x s 5 4 t (q .2 .1) (omega arith) in
+      (add nil (node notLike nil (tokAt K T at) (add nil x)), whole-part notLike (add nil x) a (on ∙ nt-got K T (good .sound) (inner notLike) (E 5) [] nil (at + 1) (rw b' (q .1))), (t .some, rw isNot (omega (arith, h))), g .0, g .1, g .2))
       (λ m p h. nt-refused K T (good .sound) F (any Not) [] nil at (rw b (on ∙ nt-refused K T (good .sound) (inner notLike) (E 5) [] nil (at + 1) (rw b' h))))
 
-  negated-null : kindAt K at ≡ NULL → Comes (done (at + 1) 4 0 (rec 40 NOTNULL 1 (pre + 1) ∷ []))
+  negated-null : kindAt K at ≡ NULL → Comes (done (at + 1) 12 0 (rec 40 NOTNULL 1 (pre + 1) ∷ []))
   unfolding isQuery pick mem capOf side count records
   negated-null e sg len = let o = over-null (tokAt K T at) in
       let g = made node-null-test NOTNULL 1 pre [] end (node' (node notNull nil (tokAt K T at) nil)) (value (F .l)) (rec 40 NOTNULL 1 (pre + 1) ∷ []) (o .0) (o .1) refl refl sg len
       (ap (λ i. rec 40 NOTNULL 1 i ∷ []) (omega arith)) in
-      told-done (at + 1) 4 0 (rec 40 NOTNULL 1 (pre + 1) ∷ [])
-      (add nil (node notNull nil (tokAt K T at) nil), whole-part notNull nil (at + 1) (begun-part notNull (rw e Not-at-NULL) refl refl), omega arith, g .0, g .1, g .2)
+      told-done (at + 1) 12 0 (rec 40 NOTNULL 1 (pre + 1) ∷ [])
+      (add nil (node notNull nil (tokAt K T at) nil), whole-part notNull nil (at + 1) (begun-part notNull (rw e Not-at-NULL) refl refl), rw isNot (omega arith, refl), g .0, g .1, g .2)
 
   negated-wrong : eqb (kindAt K at) IN ≡ false → eqb (kindAt K at) BETWEEN ≡ false → eqb (kindAt K at) LIKE-KW ≡ false → eqb (kindAt K at) NULL ≡ false → Comes (wrongAt K T at)
   unfolding mem pick

@@ -1,39 +1,42 @@
 -- An operator after an operand, by its row: binary, NOT .., IN, BETWEEN, LIKE, IS [NOT], COLLATE, ISNULL and NOTNULL. Assumes nothing.
 use mathlib.Core.Bool.{true, false, Bool}
 use mathlib.Core.List.{List, [], _∷_}
+use mathlib.Core.Option.{none}
 use mathlib.Core.Path.{_≡_, refl, sym, ap, _∙_, subst}
-use Prim.Native.Nat.{ℕ, _+_, _≤_, _<_, suc}
+use Prim.Native.Nat.{ℕ, _+_, _≤_, _<_, min, suc}
 use borrow.Author.Tests.{ne-eqb, ltb-true, eqb-false}
 use lib.Dec.{ltb, eqb}
 use lib.ListN.{getD}
 use native.Mathlib.Omega.{arith}
 use Rattle.theory.specs.Trees.{Tok, nt, Row, Tree, nil, add, leaf, node, capOf}
-use Rattle.theory.specs.Table.{pick, both, mem}
+use Rattle.theory.specs.Table.{pick, both, mem, contOf}
 use Rattle.theory.specs.Outcome.{got}
-use Rattle.theory.proofs.Cases.{pick-inv, 0≢1, eqb-eq}
+use Rattle.theory.proofs.Cases.{pick-inv, 0≢1, eqb-eq, leb-le}
+use Rattle.theory.proofs.Tested.{not-found, cont-found, tight-ok}
 use Rattle.kinds.specs.Kinds.{NOT, IS, IN, BETWEEN, LIKE-KW, ISNULL, NOTNULL, COLLATE}
 use Rattle.kinds.specs.Strength.{strengthOf}
-use Rattle.grammar.specs.Classes.{Name, IsNot?, E, any}
+use Rattle.grammar.specs.Classes.{Name, IsRight, E, any, afterIs}
 use Rattle.grammar.specs.RowNames.{row-is-not}
 use Rattle.grammar.specs.NodeNames.{node-binary, node-null-test, node-in-list, node-in-query, node-between, node-collate}
-use Rattle.grammar.specs.Rows.{part, binary}
-use Rattle.grammar.specs.Limits.{Around, isQuery, below}
+use Rattle.grammar.specs.Rows.{binary, running, exprs}
+use Rattle.grammar.specs.Grammar.{sql}
+use Rattle.grammar.proofs.Checked.{tight}
+use Rattle.grammar.specs.Limits.{Around, isQuery, below, begun, judge}
 use Rattle.grammar.specs.Nodes.{end, count, beside, rec, records}
-use Rattle.grammar.specs.Reading.{Val, empty, side, one, choose, name, isQueryVal, inside, rules, ruled, valueOf, value, _#_}
+use Rattle.grammar.specs.Reading.{Val, empty, side, cat, one, choose, name, isQueryVal, inside, rules, ruled, valueOf, value, _#_}
 use Rattle.descent.proofs.Places.{kindAt, tokAt, from, OpenRow, calls, rests}
-use Rattle.descent.proofs.Named.{isRow, likeRow, inRow, betweenRow, notRow, nullTestRow, collateRow, opRow}
+use Rattle.descent.proofs.Named.{own, isRow, likeRow, inRow, betweenRow, notRow, nullTestRow, collateRow, opRow}
 use Rattle.descent.proofs.Walk.{Walked, done, over, nameRec, collateW, exprW, negatedW, binaryW, rangeW, amongW}
 use Rattle.descent.proofs.SameRow.{eqItems, eqRow, same-row, below?, throughout}
 use Rattle.descent.proofs.TableFacts.{BOUND}
-use Rattle.descent.proofs.Steps.{nt-got, nt-refused, call-absent}
+use Rattle.descent.proofs.Steps.{nt-got, nt-refused, call-in, row-stop}
 use Rattle.descent.proofs.Growing.{records-beside}
-use Rattle.descent.proofs.ClassFacts.{out, none-of-1, firsts-IsNot, IsNot-at-NOT, IsNot-may}
-use Rattle.descent.proofs.Means.{Good, Goes, OperatorOK, NegatedOK, BinaryOK, BetweenOK, InsideOK}
-use Rattle.descent.proofs.Common.{told-map, told-choose, told-done}
-use Rattle.descent.proofs.NoTails.{plainClasses}
+use Rattle.descent.proofs.ClassFacts.{IsRight-at-NOT, IsRight-may}
+use Rattle.descent.proofs.Means.{Right, Good, Goes, OperatorOK, NegatedOK, BinaryOK, BetweenOK, InsideOK}
+use Rattle.descent.proofs.Common.{right-E, told-map, told-choose, told-done}
 use Rattle.descent.proofs.Sides.{single-count, beside-end}
 use Rattle.descent.proofs.Strong.{strength-most, expr-cap}
-use Rattle.descent.proofs.PlainClasses.{begin, whole}
+use Rattle.descent.proofs.Tails.{others, other-none}
 use Rattle.descent.proofs.NameRead.{nameTree, name-got, name-wrong, told-name}
 use Rattle.descent.proofs.Made.{made, binary-goes}
 use Rattle.descent.proofs.Negated.{bounds-side, bounds-count}
@@ -79,6 +82,21 @@ op-null-test : (k : ℕ) → k < BOUND → 0 < strengthOf k → ltb k NOT ≡ fa
 unfolding lastTest pick
 op-null-test k h p a m = same-row (opRow k) nullTestRow (rw (a, m, ne-eqb (strengthOf k) 0 (λ e. omega (arith, e, p))) at (throughout BOUND lastTest last-right k h))
 
+-- ── what follows IS ──
+right-is : Right afterIs 5
+unfolding exprs others mem pick
+right-is = record {
+  takes = record { among = refl; enough = λ k a b. b; loose = λ k a b. b; column = λ e. absurd (omega (arith, e)); other = λ a e. absurd (omega (arith, e)); most = omega arith };
+  alone = λ q m k b z. other-none afterIs q m k refl b z refl;
+  must = IsRight-may;
+  some = omega arith;
+}
+
+-- from IS NOT with its operand nothing goes on there: what is asked is tighter than what it leaves
+shut-is : (m k : ℕ) → contOf sql afterIs (running 5 4 row-is-not (nt (E 5) ∷ [])) m k ≡ none
+shut-is m k = not-found _ (λ q e. let x = cont-found sql afterIs (running 5 4 row-is-not (nt (E 5) ∷ [])) m k q e in
+    let a = leb-le 5 (q .str) (x .1) in let d = leb-le (q .left) (min 4 m) (x .3) in let t = tight-ok sql tight IsRight k q (x .0) in omega (arith, a, d, t))
+
 -- ── each of them ──
 module _ (K T : List ℕ) (good : Good K T) (f : ℕ) (at : ℕ) (c : Around) (pre : ℕ) (F : OpenRow) (tok : F .t ≡ tokAt K T at) (b : below (F .r) (F .c) ≡ c) where
   abbrev Comes : Walked → Type 0
@@ -99,7 +117,8 @@ module _ (K T : List ℕ) (good : Good K T) (f : ℕ) (at : ℕ) (c : Around) (p
   over-binary s e x = rw (e, tok) (refl, refl)
 
   by-binary : BinaryOK K T f → (s : ℕ) → F .r ≡ binary s → s ≤ 10 → Comes (binaryW K T f (at + 1) c (s + 1) (kindAt K at) pre)
-  by-binary ok s e h = with-items (binary s) _ e (binary-goes K T good f ok F nil (at + 1) c (s + 1) (kindAt K at) pre (omega arith) (omega (arith, h)) b
+  unfolding own mem pick
+  by-binary ok s e h = with-items (binary s) _ e (binary-goes K T good f ok F nil (at + 1) c (s + 1) (kindAt K at) pre (E (s + 1)) (right-E (s + 1) (omega arith) (omega (arith, h))) refl (let i = ap (λ q. q .str) e in omega (arith, i)) b
       (λ x. over-binary s e x .0) (λ x. over-binary s e x .1))
 
   by-not : NegatedOK K T f → F .r ≡ notRow → Comes (negatedW K T f (at + 1) c 5 pre)
@@ -115,7 +134,7 @@ module _ (K T : List ℕ) (good : Good K T) (f : ℕ) (at : ℕ) (c : Around) (p
       (λ a s m rs q. let x = inside (value (q .1)) in let k = add (add (add nil (leaf (q .0))) (q .1)) (leaf (q .2)) in let o = over-in e (q .0) (q .2) (q .1) in
       let g = made (choose (isQueryVal (value (q .1))) node-in-query node-in-list) 0 2 pre (x ∷ []) (x .nodes) (node' k) (value (F .l)) rs (o .0) (o .1)
       (beside-end (x .nodes)) (ap (λ i. i + 1) (single-count (x .nodes) (q .5))) sg len (q .4) in
-      (k, q .3, omega arith, g .0, g .1, g .2))
+      (k, q .3, rw (e, q .6) (omega arith, refl), g .0, g .1, g .2))
       (λ m p h. h)
 
   over-between : F .r ≡ betweenRow → (v : Tok) (x z : Tree) → Over (add (add (add nil x) (leaf v)) z) node-between 0 (value x ∷ empty ∷ value z ∷ [])
@@ -127,9 +146,9 @@ module _ (K T : List ℕ) (good : Good K T) (f : ℕ) (at : ℕ) (c : Around) (p
   by-between ok e sg len = told-map (rangeW K T f (at + 1) c 5 0 pre) (ok (at + 1) c 0 pre F (ap (λ q. q .items) e) b (rw e))
       (λ a s m rs q. let x = q .0 in let z = q .2 in let k = add (add (add nil x) (leaf (q .1))) z in let o = over-between e (q .1) x z in
       let g = made node-between 0 3 pre (value x ∷ empty ∷ value z ∷ []) (beside (value x .nodes) (value z .nodes)) (node' k) (value (F .l)) rs (o .0) (o .1)
-      (bounds-side (value x) (value z)) (bounds-count (value x) (value z) (q .4 .1 .single) (q .5 .1 .single)) sg len
+      (bounds-side (value x) (value z)) (bounds-count (value x) (value z) (q .4 .1 .single) (q .5 .single)) sg len
       (q .6 ∙ ap (over node-between 0 3 pre) (sym (records-beside (value x .nodes) (value z .nodes)))) in
-      (k, q .3, expr-cap z (q .5 .0) (q .5 .1), g .0, g .1, g .2))
+      (k, q .3, (q .5 .some, rw e (expr-cap z s 5 4 (q .5) (q .7) (omega arith))), g .0, g .1, g .2))
       (λ m p h. h)
 
   over-like : F .r ≡ likeRow → (x : Tree) → Over (add nil x) node-binary (200 + getD T at 0) (value x ∷ [])
@@ -137,42 +156,63 @@ module _ (K T : List ℕ) (good : Good K T) (f : ℕ) (at : ℕ) (c : Around) (p
   over-like e x = rw (e, tok) (refl, refl)
 
   by-like : BinaryOK K T f → F .r ≡ likeRow → Comes (binaryW K T f (at + 1) c 5 (200 + getD T at 0) pre)
-  by-like ok e = with-items likeRow _ e (binary-goes K T good f ok F nil (at + 1) c 5 (200 + getD T at 0) pre (omega arith) (omega arith) b (λ x. over-like e x .0) (λ x. over-like e x .1))
+  unfolding own mem pick
+  by-like ok e = with-items likeRow _ e (binary-goes K T good f ok F nil (at + 1) c 5 (200 + getD T at 0) pre (E 5) (right-E 5 (omega arith) (omega arith)) refl (let i = ap (λ q. q .str) e in omega (arith, i)) b (λ x. over-like e x .0) (λ x. over-like e x .1))
 
   -- IS NOT, and IS without NOT
   abbrev isNotRow : Row
-  isNotRow = part row-is-not []
+  isNotRow = running 5 4 row-is-not (nt (E 5) ∷ [])
 
-  over-is-not : F .r ≡ isRow → kindAt K at ≡ IS → (u : Tok) (x : Tree) → Over (add (add nil (node isNotRow nil u nil)) x) node-binary 137 (value x ∷ [])
-  unfolding value valueOf ruled rules pick _#_
+  over-is-not : F .r ≡ isRow → kindAt K at ≡ IS → (u : Tok) (x : Tree) → Over (add nil (node isNotRow nil u (add nil x))) node-binary 137 (cat (value x ∷ []) ∷ [])
+  unfolding value valueOf ruled rules pick _#_ side
   over-is-not e d u x = rw (e, tok, d) (refl, refl)
 
-  over-is : F .r ≡ isRow → kindAt K at ≡ IS → (x : Tree) → Over (add (add nil nil) x) node-binary 37 (value x ∷ [])
-  unfolding value valueOf ruled rules pick _#_
-  over-is e d x = rw (e, tok, d) (refl, refl)
+  over-is : F .r ≡ isRow → kindAt K at ≡ IS → (x : Tree) → value x .num ≡ 0 → Over (add nil x) node-binary 37 (value x ∷ [])
+  unfolding value valueOf ruled rules pick _#_ side
+  over-is e d x z = rw (e, tok, d, z) (refl, refl)
 
   by-is : BinaryOK K T f → F .r ≡ isRow → kindAt K at ≡ IS → Comes (choose (eqb (kindAt K (at + 1)) NOT) (binaryW K T f (at + 2) c 5 137 pre) (binaryW K T f (at + 1) c 5 37 pre))
-  unfolding isQuery plainClasses mem pick
+  unfolding own mem pick capOf side below isQuery judge begun both
   by-is ok e d sg len = told-choose (eqb (kindAt K (at + 1)) NOT) (binaryW K T f (at + 2) c 5 137 pre) (binaryW K T f (at + 1) c 5 37 pre)
-      (λ z. let y = node isNotRow nil (tokAt K T (at + 1)) nil in
-      let on = nt-got K T (good .sound) F (any IsNot?) (nt (E 5) ∷ []) nil (at + 1) (rw b (is-not (eqb-eq (kindAt K (at + 1)) NOT z))) in
-      told-map (binaryW K T f (at + 2) c 5 137 pre)
-      (binary-goes K T good f ok F (add nil y) (at + 2) c 5 137 pre (omega arith) (omega arith) b (λ x. over-is-not e d (tokAt K T (at + 1)) x .0) (λ x. over-is-not e d (tokAt K T (at + 1)) x .1) sg len)
-      (λ a s m rs q. (q .0, items ∙ on ∙ q .1, q .2, q .3, q .4, q .5))
-      (λ m p h. items ∙ on ∙ h))
-      (λ z. let on = nt-got K T (good .sound) F (any IsNot?) (nt (E 5) ∷ []) nil (at + 1)
-      (rw b (call-absent K T (good .sound) c (any IsNot?) (at + 1) (out IsNot? (kindAt K (at + 1)) (rw firsts-IsNot (none-of-1 (eqb-false (kindAt K (at + 1)) NOT z)))) IsNot-may)) in
-      told-map (binaryW K T f (at + 1) c 5 37 pre)
-      (binary-goes K T good f ok F (add nil nil) (at + 1) c 5 37 pre (omega arith) (omega arith) b (λ x. over-is e d x .0) (λ x. over-is e d x .1) sg len)
-      (λ a s m rs q. (q .0, items ∙ on ∙ q .1, q .2, q .3, q .4, q .5))
-      (λ m p h. items ∙ on ∙ h))
+      (λ z. let u = tokAt K T (at + 1) in
+      told-map (binaryW K T f (at + 2) c 5 137 pre) (ok (at + 2) c 5 137 pre (E 5) (right-E 5 (omega arith) (omega arith)) refl)
+      (λ a s m rs q. let x = q .0 in let t = q .2 .0 in let o = over-is-not e d u x in let y = node isNotRow nil u (add nil x) in
+      let g = made node-binary 137 2 pre (cat (value x ∷ []) ∷ []) (value x .nodes) (node' (add nil y)) (value (F .l)) rs (o .0) (o .1)
+      (beside-end (side (value x ∷ [])) ∙ beside-end (value x .nodes)) (ap (λ i. i + 1) (single-count (value x .nodes) (t .single))) sg len (q .2 .2) in
+      let h = expr-cap x s 5 4 t (q .2 .1) (omega arith) in (
+        add nil y,
+        items ∙ nt-got K T (good .sound) F afterIs [] nil (at + 1) (rw b (begun z ∙ nt-got K T (good .sound) (inner u) (E 5) [] nil (at + 2) (rw inside (q .1)) ∙ ends u x a)),
+        (t .some, rw e (omega (arith, h))),
+        g .0,
+        g .1,
+        g .2,
+      ))
+      (λ m p h. items ∙ nt-refused K T (good .sound) F afterIs [] nil (at + 1) (rw b (begun z ∙ nt-refused K T (good .sound) (inner (tokAt K T (at + 1))) (E 5) [] nil (at + 2) (rw inside h)))))
+      (λ z. told-map (binaryW K T f (at + 1) c 5 37 pre) (ok (at + 1) c 5 37 pre afterIs right-is (rw z))
+      (λ a s m rs q. let x = q .0 in let t = q .2 .0 in let o = over-is e d x (t .silent) in
+      let g = made node-binary 37 2 pre (value x ∷ []) (value x .nodes) (node' (add nil x)) (value (F .l)) rs (o .0) (o .1)
+      (beside-end (value x .nodes)) (ap (λ i. i + 1) (single-count (value x .nodes) (t .single))) sg len (q .2 .2) in
+      (add nil x, items ∙ nt-got K T (good .sound) F afterIs [] nil (at + 1) (rw b (q .1)), (t .some, rw e (expr-cap x s 5 4 t (q .2 .1) (omega arith))), g .0, g .1, g .2))
+      (λ m p h. items ∙ nt-refused K T (good .sound) F afterIs [] nil (at + 1) (rw b h)))
     where
-      items : rests K T F (F .r .items) nil (at + 1) ≡ rests K T F (nt (any IsNot?) ∷ nt (E 5) ∷ []) nil (at + 1)
+      items : rests K T F (F .r .items) nil (at + 1) ≡ rests K T F (nt afterIs ∷ []) nil (at + 1)
       items = ap (λ q. rests K T F (q .items) nil (at + 1)) e
 
-      is-not : kindAt K (at + 1) ≡ NOT → calls K T c (any IsNot?) (at + 1) ≡ got (node isNotRow nil (tokAt K T (at + 1)) nil) (at + 2) (from K T (at + 2))
-      is-not z = begin K T good c IsNot? isNotRow (at + 1) (rw z IsNot-at-NOT) refl refl ∙ whole K T good c IsNot? isNotRow (at + 1) nil (at + 1 + 1) refl
-          ∙ ap (λ i. got (node isNotRow nil (tokAt K T (at + 1)) nil) i (from K T i)) (omega arith)
+      inner : Tok → OpenRow
+      inner u = record { c = c; A = afterIs; r = isNotRow; l = nil; t = u }
+
+      inside : below isNotRow c ≡ c
+      inside = refl
+
+      silent : (c : Around) (t : Tok) → judge c isNotRow nil t nil ≡ 0
+      silent c t = refl
+
+      begun : eqb (kindAt K (at + 1)) NOT ≡ true → calls K T c afterIs (at + 1) ≡ rests K T (inner (tokAt K T (at + 1))) (isNotRow .items) nil (at + 2)
+      begun z = call-in K T (good .sound) c afterIs (at + 1) isNotRow (rw (eqb-eq (kindAt K (at + 1)) NOT z) IsRight-at-NOT) (silent c (tokAt K T (at + 1)))
+          ∙ ap (λ i. rests K T (inner (tokAt K T (at + 1))) (isNotRow .items) nil i) (omega arith)
+
+      ends : (u : Tok) (x : Tree) (a : ℕ) → rests K T (inner u) [] (add nil x) a ≡ got (node isNotRow nil u (add nil x)) a (from K T a)
+      ends u x a = row-stop K T (good .sound) (inner u) (add nil x) a (shut-is (capOf x) (kindAt K a))
 
   over-collate : F .r ≡ collateRow → (x : Tree) → Over (add nil x) node-collate 0 (value x ∷ [])
   unfolding value valueOf ruled rules pick
@@ -188,8 +228,8 @@ module _ (K T : List ℕ) (good : Good K T) (f : ℕ) (at : ℕ) (c : Around) (p
       (λ z. let x = nameTree K T good (at + 1) in let o = over-collate e x in
       let g = made node-collate 0 2 pre (value x ∷ []) (name (tokAt K T (at + 1)) .nodes) (node' (add nil x)) (value (F .l)) (over 44 0 2 pre (nameRec K T (at + 1) ∷ [])) (o .0) (o .1)
       (beside-end (value x .nodes) ∙ name-nodes (at + 1)) refl sg len refl in
-      told-done (at + 1 + 1) 0 0 (over 44 0 2 pre (nameRec K T (at + 1) ∷ []))
-      (add nil x, items ∙ nt-got K T (good .sound) F (any Name) [] nil (at + 1) (rw b (name-got K T good (at + 1) c z)), omega arith, g .0, g .1, g .2))
+      told-done (at + 1 + 1) 12 0 (over 44 0 2 pre (nameRec K T (at + 1) ∷ []))
+      (add nil x, items ∙ nt-got K T (good .sound) F (any Name) [] nil (at + 1) (rw b (name-got K T good (at + 1) c z)), rw e (omega arith, refl), g .0, g .1, g .2))
       (λ z. items ∙ nt-refused K T (good .sound) F (any Name) [] nil (at + 1) (rw b (name-wrong K T good (at + 1) c z)))
     where
       items : rests K T F (F .r .items) nil (at + 1) ≡ rests K T F (nt (any Name) ∷ []) nil (at + 1)
@@ -199,11 +239,11 @@ module _ (K T : List ℕ) (good : Good K T) (f : ℕ) (at : ℕ) (c : Around) (p
   unfolding value valueOf ruled rules pick
   over-null e = rw (e, tok) (refl, refl)
 
-  by-null : F .r ≡ nullTestRow → Comes (done (at + 1) 4 0 (rec 40 (kindAt K at) 1 (pre + 1) ∷ []))
+  by-null : F .r ≡ nullTestRow → Comes (done (at + 1) 12 0 (rec 40 (kindAt K at) 1 (pre + 1) ∷ []))
   unfolding capOf side count records
   by-null e sg len = let o = over-null e in
       let g = made node-null-test (kindAt K at) 1 pre [] end (node' nil) (value (F .l)) (rec 40 (kindAt K at) 1 (pre + 1) ∷ []) (o .0) (o .1) refl refl sg len (ap (λ i. rec 40 (kindAt K at) 1 i ∷ []) (omega arith)) in
-      told-done (at + 1) 4 0 (rec 40 (kindAt K at) 1 (pre + 1) ∷ []) (nil, ap (λ q. rests K T F (q .items) nil (at + 1)) e, omega arith, g .0, g .1, g .2)
+      told-done (at + 1) 12 0 (rec 40 (kindAt K at) 1 (pre + 1) ∷ []) (nil, ap (λ q. rests K T F (q .items) nil (at + 1)) e, rw e (omega arith, refl), g .0, g .1, g .2)
 
 module _ (K T : List ℕ) (good : Good K T) (f : ℕ) where
   pub operator-ok : BinaryOK K T f → NegatedOK K T f → InsideOK K T f → BetweenOK K T f → OperatorOK K T (suc f)

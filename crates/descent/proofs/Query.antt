@@ -26,14 +26,14 @@ use Rattle.descent.proofs.Walk.{opening, over, queryW, bodyW, tailW, ro
 use Rattle.descent.proofs.Grown.{recs}
 use Rattle.descent.proofs.Steps.{nt-got, nt-refused, call-in, call-word, call-wrong}
 use Rattle.descent.proofs.Means.{Single, Good, QueryOK, BodyOK, SelectOK, ValuesOK, TailOK}
-use Rattle.descent.proofs.Common.{told-bind, told-map, told-choose, told-done, told-stop}
+use Rattle.descent.proofs.Common.{no-strength, told-bind, told-map, told-choose, told-done, told-stop}
 use Rattle.descent.proofs.Sides.{single-count, one-single}
 use Rattle.descent.proofs.NodeRecords.{one-beside, last-beside, beside-is, over-beside}
 
 -- the limits' word where a query opens
 query-word : (c : Around) (r : Row) (t : Tok) → isQuery (r .code) ≡ true → r .str ≡ 0 → judge c r nil t nil ≡ pick (leb QUERIES (c .opened)) 6 (λ w. 0)
 unfolding judge begun both pick
-query-word c r t q s = rw (q, s)
+query-word c r t q s = rw (q, no-strength r s)
 
 four-records : (rs qs : List Rec) (b o l y : Val) → rs ≡ recs b → Single (b .nodes) → qs ≡ recs o ++ recs l → Single (o .nodes) → count (l .nodes) ≡ 2 → y .nodes ≡ one node-query 0 (b ∷ o ∷ l ∷ []) .nodes
     → recs y ≡ over 1 0 4 0 (rs ++ qs)

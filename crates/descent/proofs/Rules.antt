@@ -203,11 +203,11 @@ pub value-binary : (l : Val) (t : Tok) (k : List Val) → valueOf row-binary l t
 unfolding valueOf ruled rules pick
 value-binary l t k = refl
 
-pub value-is : (l : Val) (t : Tok) (k : List Val) → valueOf row-is l t k ≡ known row-is (one node-binary (t .kind + (k # 0) .num) (l ∷ k # 1 ∷ []))
+pub value-is : (l : Val) (t : Tok) (k : List Val) → valueOf row-is l t k ≡ known row-is (one node-binary (t .kind + (k # 0) .num) (l ∷ k))
 unfolding valueOf ruled rules pick
 value-is l t k = refl
 
-pub value-is-not : (l : Val) (t : Tok) (k : List Val) → valueOf row-is-not l t k ≡ known row-is-not (says 100)
+pub value-is-not : (l : Val) (t : Tok) (k : List Val) → valueOf row-is-not l t k ≡ known row-is-not (saying 100 (cat k))
 unfolding valueOf ruled rules pick
 value-is-not l t k = refl
 

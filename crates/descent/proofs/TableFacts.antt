@@ -14,9 +14,9 @@ use Rattle.theory.proofs.Tested.{allb, all-mem, not-found, cont-found, cont-som
 use Rattle.kinds.specs.Strength.{strengthOf, prefixOf}
 use Rattle.kinds.specs.Classes.{isName, literalCode}
 use Rattle.grammar.specs.Classes.{Expr, E}
-use Rattle.grammar.specs.Rows.{butColumn, exprs, selectItems, valuesItems, lines, headsOf, tailsOf}
+use Rattle.grammar.specs.Rows.{butColumn, butIs, exprs, selectItems, valuesItems, lines, headsOf, tailsOf}
 use Rattle.grammar.specs.Grammar.{sql}
-use Rattle.descent.proofs.Named.{opRow, restOf, headRow, own}
+use Rattle.descent.proofs.Named.{opRow, prefixRow, restOf, headRow, own}
 use Rattle.descent.proofs.SameRow.{eqNt, eqItem, eqItems, eqRow, eqFound, same-found, below?, throughout}
 
 -- kinds are 0 (the end) to 71
@@ -28,14 +28,14 @@ opTest k = pick (eqb (strengthOf k) 0) (eqFound (lookup Expr k (sql .tails)) non
     (λ w. both (both (eqb (opRow k .str) (strengthOf k)) (both (eqb (opRow k .left) (strengthOf k)) (eqb (opRow k .cap) 99))) (allb (λ C. eqFound (lookup C k (sql .tails)) (some (opRow k))) exprs))
 
 ops-right : below? BOUND opTest ≡ true
-unfolding opTest below? eqFound eqRow eqItems eqItem eqNt opRow strengthOf sql lines butColumn exprs selectItems valuesItems headsOf tailsOf pick both allb mem lookup
+unfolding opTest below? eqFound eqRow eqItems eqItem eqNt opRow strengthOf sql lines butColumn butIs exprs selectItems valuesItems headsOf tailsOf pick both allb mem lookup
 ops-right = refl
 
 headTest : ℕ → Bool
 headTest k = allb (λ C. pick (mem k (own C)) true (λ w. eqFound (lookup C k (sql .heads)) (headRow C k))) exprs
 
 heads-right : below? BOUND headTest ≡ true
-unfolding headTest below? eqFound eqRow eqItems eqItem eqNt headRow restOf own prefixOf literalCode isName sql lines butColumn exprs selectItems valuesItems headsOf tailsOf pick both allb mem lookup
+unfolding headTest below? eqFound eqRow eqItems eqItem eqNt headRow prefixRow restOf own prefixOf literalCode isName sql lines butColumn butIs exprs selectItems valuesItems headsOf tailsOf pick both allb mem lookup
 heads-right = refl
 
 -- ── what the tests say ──
@@ -71,16 +71,16 @@ heads-in C m k h o = pick-inv (mem k (own C)) true _ true
 
 -- ── an operator goes on, or does not ──
 module _ (A : Nt) (m : mem (A .of) exprs ≡ true) (k : ℕ) (h : k < BOUND) (p : 0 < strengthOf k) where
-  pub cont-op : (q : Row) (cap : ℕ) → A .least ≤ strengthOf k → strengthOf k ≤ q .str → 99 ≤ q .cap → 99 ≤ cap → strengthOf k ≤ 12 → contOf sql A q cap k ≡ some (opRow k)
-  cont-op q cap a b c d e = let s = op-str k h p in
+  pub cont-op : (q : Row) (cap : ℕ) → A .least ≤ strengthOf k → strengthOf k ≤ min (q .str) (min (q .cap) cap) → contOf sql A q cap k ≡ some (opRow k)
+  cont-op q cap a b = let s = op-str k h p in
       cont-some sql A q cap k (opRow k) (tails-op (A .of) m k h p) (le-leb (A .least) (opRow k .str) (omega (arith, s .0, a)))
-      (le-leb (opRow k .left) (q .str) (omega (arith, s .1, b))) (le-leb (opRow k .left) (min (q .cap) cap) (omega (arith, s .1, c, d, e)))
+      (le-leb (opRow k .left) (q .str) (omega (arith, s .1, b))) (le-leb (opRow k .left) (min (q .cap) cap) (omega (arith, s .1, b)))
 
-  -- it asks more of its left operand than that has
-  pub cont-tight : (q : Row) (cap : ℕ) → q .str < strengthOf k → contOf sql A q cap k ≡ none
+  -- it asks more of its left operand than that leaves
+  pub cont-tight : (q : Row) (cap : ℕ) → min (q .str) (min (q .cap) cap) < strengthOf k → contOf sql A q cap k ≡ none
   cont-tight q cap a = not-found (contOf sql A q cap k) (λ r e. let f = cont-found sql A q cap k r e in
       let z : some r ≡ some (opRow k) = sym (f .0) ∙ tails-op (A .of) m k h p in let y : r ≡ opRow k = cc in
-      let l = leb-le (r .left) (q .str) (f .2) in let x : r .left ≡ opRow k .left = ap (λ w. w .left) y in absurd (omega (arith, op-str k h p .1, a, l, x)))
+      let l = leb-le (r .left) (q .str) (f .2) in let m = leb-le (r .left) (min (q .cap) cap) (f .3) in let x : r .left ≡ opRow k .left = ap (λ w. w .left) y in absurd (omega (arith, op-str k h p .1, a, l, m, x)))
 
   -- it is looser than what is asked
   pub cont-loose : (q : Row) (cap : ℕ) → strengthOf k < A .least → contOf sql A q cap k ≡ none

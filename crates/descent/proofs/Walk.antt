@@ -3,7 +3,7 @@
 -- is proved in proofs/. K, T: kinds and text numbers; c, s: the level and queries around, and the strength asked. Definitions only.
 use mathlib.Core.Bool.{true, false, Bool}
 use mathlib.Core.List.{List, [], _∷_, _++_}
-use Prim.Native.Nat.{ℕ, _+_, zero, suc, _*_}
+use Prim.Native.Nat.{ℕ, _+_, zero, suc, _*_, min}
 use lib.Dec.{ltb, eqb, leb, T}
 use lib.ListN.{length, getD}
 use Rattle.theory.specs.Table.{both, mem}
@@ -73,7 +73,7 @@ module _ (K T : List ℕ) where
   closeW at code detail n pre = choose (eqb (κ at) RP) (done (at + 1) 12 0 (rec code detail n (pre + 1) ∷ [])) (wrongAt at)
 
   unfoldable pub tooDeepW : ℕ → ℕ → Walked
-  tooDeepW at s = choose (beginsExpr (κ at)) (choose (both (eqb (κ at) NOT) (ltb 3 s)) (wrongAt at) (stop 5 at)) (wrongAt at)
+  tooDeepW at s = choose (beginsExpr (κ at)) (choose (both (eqb (κ at) NOT) (ltb 10 s)) (wrongAt at) (stop 5 at)) (wrongAt at)
 
   -- after the name at the place before: DOT name [DOT name], or nothing; in a column (s = 0) DOT STAR
   unfoldable pub dotsW : ℕ → Walked
@@ -91,7 +91,7 @@ module _ (K T : List ℕ) where
   calledW at detail n rs = choose (eqb (κ at) RP) (done (at + 1) 12 0 (rs ++ (rec 4 0 n (length rs + 1) ∷ rec 32 detail 2 (length rs + 3) ∷ []))) (wrongAt at)
 
   unfoldable pub collateW : ℕ → ℕ → Walked
-  collateW at pre = bind (nameW at) (λ a s n rs. done a 0 0 (over 44 0 2 pre rs))
+  collateW at pre = bind (nameW at) (λ a s n rs. done a 12 0 (over 44 0 2 pre rs))
 
   unfoldable pub aliasW : ℕ → Walked
   aliasW at = choose (eqb (κ at) AS) (bind (nameW (at + 1)) (λ a s n rs. done a 1 0 rs))
@@ -138,7 +138,7 @@ module _ (K T : List ℕ) where
 
   -- RP of IN, after these records
   unfoldable pub endedW : ℕ → ℕ → ℕ → ℕ → List Rec → Walked
-  endedW at code not pre rs = choose (eqb (κ at) RP) (done (at + 1) 0 0 (over code not 2 pre rs)) (wrongAt at)
+  endedW at code not pre rs = choose (eqb (κ at) RP) (done (at + 1) 12 0 (over code not 2 pre rs)) (wrongAt at)
 
   -- ── the cycle ──
   unfoldable mutual
@@ -162,15 +162,16 @@ module _ (K T : List ℕ) where
         (choose (eqb (κ at) EXISTS) (existsW f (at + 1) (deeper c))
         (choose (ltb 0 (prefixOf (κ at))) (signW f at c s) (wrongAt at)))))
 
-    -- the operators that go on from an operand of strength `left`, of `pre` records
+    -- the operators that go on from an operand that leaves `left`, of `pre` records
     pub opsW : ℕ → ℕ → Around → ℕ → ℕ → ℕ → Walked
     opsW zero at c s left pre = spent
     opsW (suc f) at c s left pre =
         choose (eqb (strengthOf (κ at)) 0) (done at left 0 [])
         (choose (ltb (strengthOf (κ at)) s) (done at left 0 [])
         (choose (ltb left (strengthOf (κ at))) (done at left 0 [])
-        (bind (opW f at (deeper c) (strengthOf (κ at) + 1) pre) (λ a x n rs. onto rs (opsW f a c s (strengthOf (κ at)) (pre + length rs))))))
+        (bind (opW f at (deeper c) (strengthOf (κ at) + 1) pre) (λ a x n rs. onto rs (opsW f a c s (min (strengthOf (κ at)) x) (pre + length rs))))))
 
+    -- an operator: what its right operand leaves, or 12 where it has none
     pub opW : ℕ → ℕ → Around → ℕ → ℕ → Walked
     opW zero at c s pre = spent
     opW (suc f) at c s pre =
@@ -180,7 +181,7 @@ module _ (K T : List ℕ) where
         (choose (eqb (κ at) BETWEEN) (rangeW f (at + 1) c s 0 pre)
         (choose (eqb (κ at) LIKE-KW) (binaryW f (at + 1) c s (200 + τ at) pre)
         (choose (eqb (κ at) IS) (choose (eqb (κ (at + 1)) NOT) (binaryW f (at + 2) c s 137 pre) (binaryW f (at + 1) c s 37 pre))
-        (choose (eqb (κ at) COLLATE) (collateW (at + 1) pre) (done (at + 1) 4 0 (rec 40 (κ at) 1 (pre + 1) ∷ []))))))))
+        (choose (eqb (κ at) COLLATE) (collateW (at + 1) pre) (done (at + 1) 12 0 (rec 40 (κ at) 1 (pre + 1) ∷ []))))))))
 
     -- after NOT that follows an operand
     pub negatedW : ℕ → ℕ → Around → ℕ → ℕ → Walked
@@ -189,15 +190,15 @@ module _ (K T : List ℕ) where
         choose (eqb (κ at) IN) (amongW f (at + 1) c 1 pre)
         (choose (eqb (κ at) BETWEEN) (rangeW f (at + 1) c s 1 pre)
         (choose (eqb (κ at) LIKE-KW) (binaryW f (at + 1) c s (300 + τ at) pre)
-        (choose (eqb (κ at) NULL) (done (at + 1) 4 0 (rec 40 NOTNULL 1 (pre + 1) ∷ [])) (wrongAt at))))
+        (choose (eqb (κ at) NULL) (done (at + 1) 12 0 (rec 40 NOTNULL 1 (pre + 1) ∷ [])) (wrongAt at))))
 
     pub binaryW : ℕ → ℕ → Around → ℕ → ℕ → ℕ → Walked
     binaryW zero at c s detail pre = spent
-    binaryW (suc f) at c s detail pre = bind (exprW f at c s) (λ a x n rs. done a 0 0 (over 39 detail 2 pre rs))
+    binaryW (suc f) at c s detail pre = bind (exprW f at c s) (λ a x n rs. done a x 0 (over 39 detail 2 pre rs))
 
     pub rangeW : ℕ → ℕ → Around → ℕ → ℕ → ℕ → Walked
     rangeW zero at c s not pre = spent
-    rangeW (suc f) at c s not pre = bind (exprW f at c s) (λ a x n rs. bind (afterW f a AND c s) (λ b x n qs. done b 0 0 (over 43 not 3 pre (rs ++ qs))))
+    rangeW (suc f) at c s not pre = bind (exprW f at c s) (λ a x n rs. bind (afterW f a AND c s) (λ b y n qs. done b y 0 (over 43 not 3 pre (rs ++ qs))))
 
     -- a word, and an expression
     pub afterW : ℕ → ℕ → ℕ → Around → ℕ → Walked
@@ -221,8 +222,8 @@ module _ (K T : List ℕ) where
 
     pub signW : ℕ → ℕ → Around → ℕ → Walked
     signW zero at c s = spent
-    signW (suc f) at c s = choose (ltb (prefixOf (κ at)) s) (wrongAt at)
-        (bind (exprW f (at + 1) (deeper c) (prefixOf (κ at))) (λ a x n rs. done a (prefixOf (κ at)) 0 (over 38 (κ at) 1 0 rs)))
+    signW (suc f) at c s = choose (both (eqb (κ at) NOT) (ltb 10 s)) (wrongAt at)
+        (bind (exprW f (at + 1) (deeper c) (prefixOf (κ at))) (λ a x n rs. done a (min (prefixOf (κ at)) x) 0 (over 38 (κ at) 1 0 rs)))
 
     -- after LP of a call
     pub callW : ℕ → ℕ → Around → Walked

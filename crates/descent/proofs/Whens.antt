@@ -12,7 +12,7 @@ use Rattle.theory.proofs.Cases.{eqb-eq}
 use Rattle.theory.proofs.Tested.{kindsOf}
 use Rattle.kinds.specs.Kinds.{WHEN, THEN}
 use Rattle.grammar.specs.Classes.{Whens?, E, any}
-use Rattle.grammar.specs.Rows.{begins, goes, butColumn, exprs, selectItems, valuesItems, lines, headsOf, tailsOf}
+use Rattle.grammar.specs.Rows.{begins, goes, butColumn, butIs, exprs, selectItems, valuesItems, lines, headsOf, tailsOf}
 use Rattle.grammar.specs.Grammar.{sql}
 use Rattle.grammar.specs.Limits.{isQuery, below}
 use Rattle.grammar.specs.Nodes.{count, beside, records}
@@ -24,14 +24,14 @@ use Rattle.descent.proofs.Steps.{nt-got, nt-refused}
 use Rattle.descent.proofs.ClassFacts.{firsts-Whens, Whens-at-WHEN, Whens-may}
 use Rattle.descent.proofs.Rules.{value-next-when}
 use Rattle.descent.proofs.Means.{Single, Good, nextWhen, ExprOK, AfterOK, WordOK, FurtherWhensOK, WhensOK}
-use Rattle.descent.proofs.Common.{told-bind, told-onto, told-choose, told-done, expr-got}
+use Rattle.descent.proofs.Common.{told-map, told-bind, told-onto, told-choose, told-done, expr-got}
 use Rattle.descent.proofs.Sides.{single-count}
 use Rattle.descent.proofs.Strong.{below-part}
 use Rattle.descent.proofs.Values.{recsAll-3, count-3}
 use Rattle.descent.proofs.ListLaw.{ListClass, list-begins, list-absent, list-on, list-stop}
 
 whens-list : ListClass Whens? WHEN nextWhen
-unfolding sql lines butColumn exprs selectItems valuesItems headsOf tailsOf pick both mem lookup kindsOf isQuery
+unfolding sql lines butColumn butIs exprs selectItems valuesItems headsOf tailsOf pick both mem lookup kindsOf isQuery
 whens-list = record { begins = Whens-at-WHEN; only = firsts-Whens; goes = refl; goes-only = refl; may = Whens-may; weak = refl; loose = refl; no-query = refl }
 
 -- a further pair
@@ -52,7 +52,7 @@ module _ (l : Tree) (u : Tok) (x : Tree) (v : Tok) (z : Tree) where
 module _ (K T : List ℕ) (good : Good K T) (f : ℕ) where
   pub word-ok : ExprOK K T f → WordOK K T (suc f)
   unfolding exprW
-  word-ok ok at word c s h m e = told-choose (eqb (kindAt K at) word) _ _ (λ z. expr-got K T good f ok (at + 1) c s h m) (λ z. absurd (eqb-false (kindAt K at) word z e))
+  word-ok ok at word c s h m e = told-choose (eqb (kindAt K at) word) _ _ (λ z. told-map (exprW K T f (at + 1) c s) (expr-got K T good f ok (at + 1) c s h m) (λ a u n rs p. (p .0, p .1, p .2, p .3)) (λ m p q. q)) (λ z. absurd (eqb-false (kindAt K at) word z e))
 
   pub further-whens-ok : WordOK K T f → AfterOK K T f → FurtherWhensOK K T f → FurtherWhensOK K T (suc f)
   unfolding exprW mem pick

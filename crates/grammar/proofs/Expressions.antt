@@ -13,7 +13,7 @@ use Rattle.theory.specs.Outcome.{Ans, got, refused, Outcome}
 use Rattle.theory.proofs.Cases.{0≢1, both-l, both-r, both-i, eqb-eq, eqb-true}
 use Rattle.theory.proofs.Tested.{notb, allb, FollowOf}
 use Rattle.theory.proofs.Outcomes.{some-outcome}
-use Rattle.kinds.specs.Kinds.{ID, NULL, LP, RP, STAR, PLUS, MINUS, CONCAT, BITAND, BITOR, LSHIFT, EQ, LT, AND, OR, NOT, IS, IN, BETWEEN, LIKE-KW, ISNULL, NOTNULL, COLLATE, CASE, WHEN, THEN, ELSE, END, EXISTS, SELECT}
+use Rattle.kinds.specs.Kinds.{ID, NULL, LP, RP, COMMA, STAR, PLUS, MINUS, CONCAT, BITAND, BITOR, LSHIFT, EQ, LT, AND, OR, NOT, IS, IN, BETWEEN, LIKE-KW, ISNULL, NOTNULL, COLLATE, CASE, WHEN, THEN, ELSE, END, AS, EXISTS, SELECT}
 use Rattle.grammar.specs.Classes.{Command, any}
 use Rattle.grammar.specs.Grammar.{sql, G, IsCommand}
 use Rattle.grammar.specs.Limits.{Around, outer, under, judge, limits}
@@ -93,6 +93,33 @@ expressions =
     ∷ groups (a ∷ w IN ∷ w LP ∷ w LP ∷ w SELECT ∷ b ∷ w RP ∷ w RP ∷ []) (a ∷ w IN ∷ w LP ∷ w LP ∷ w LP ∷ w SELECT ∷ b ∷ w RP ∷ w RP ∷ w RP ∷ []) (a ∷ w IN ∷ w LP ∷ w SELECT ∷ b ∷ w RP ∷ [])
     -- EXISTS (SELECT a) = b
     ∷ groups (w EXISTS ∷ w LP ∷ w SELECT ∷ a ∷ w RP ∷ w EQ ∷ b ∷ []) (w LP ∷ w EXISTS ∷ w LP ∷ w SELECT ∷ a ∷ w RP ∷ w RP ∷ w EQ ∷ b ∷ []) (w EXISTS ∷ w LP ∷ w SELECT ∷ a ∷ w EQ ∷ b ∷ w RP ∷ [])
+    -- NOT to the right
+    -- a + NOT b = c
+    ∷ groups (a ∷ w PLUS ∷ w NOT ∷ b ∷ w EQ ∷ c ∷ []) (a ∷ w PLUS ∷ w LP ∷ w NOT ∷ w LP ∷ b ∷ w EQ ∷ c ∷ w RP ∷ w RP ∷ []) (w LP ∷ a ∷ w PLUS ∷ w LP ∷ w NOT ∷ b ∷ w RP ∷ w RP ∷ w EQ ∷ c ∷ [])
+    -- a = NOT b AND c
+    ∷ groups (a ∷ w EQ ∷ w NOT ∷ b ∷ w AND ∷ c ∷ []) (w LP ∷ a ∷ w EQ ∷ w LP ∷ w NOT ∷ b ∷ w RP ∷ w RP ∷ w AND ∷ c ∷ []) (a ∷ w EQ ∷ w LP ∷ w NOT ∷ w LP ∷ b ∷ w AND ∷ c ∷ w RP ∷ w RP ∷ [])
+    -- a = NOT b = c
+    ∷ groups (a ∷ w EQ ∷ w NOT ∷ b ∷ w EQ ∷ c ∷ []) (a ∷ w EQ ∷ w LP ∷ w NOT ∷ w LP ∷ b ∷ w EQ ∷ c ∷ w RP ∷ w RP ∷ []) (w LP ∷ a ∷ w EQ ∷ w NOT ∷ b ∷ w RP ∷ w EQ ∷ c ∷ [])
+    -- a * NOT b || c
+    ∷ groups (a ∷ w STAR ∷ w NOT ∷ b ∷ w CONCAT ∷ c ∷ []) (a ∷ w STAR ∷ w LP ∷ w NOT ∷ w LP ∷ b ∷ w CONCAT ∷ c ∷ w RP ∷ w RP ∷ []) (w LP ∷ a ∷ w STAR ∷ w NOT ∷ b ∷ w RP ∷ w CONCAT ∷ c ∷ [])
+    -- a = NOT b COLLATE c
+    ∷ groups (a ∷ w EQ ∷ w NOT ∷ b ∷ w COLLATE ∷ c ∷ []) (a ∷ w EQ ∷ w LP ∷ w NOT ∷ w LP ∷ b ∷ w COLLATE ∷ c ∷ w RP ∷ w RP ∷ []) (w LP ∷ a ∷ w EQ ∷ w NOT ∷ b ∷ w RP ∷ w COLLATE ∷ c ∷ [])
+    -- a BETWEEN NOT b AND NOT c = d
+    ∷ groups (a ∷ w BETWEEN ∷ w NOT ∷ b ∷ w AND ∷ w NOT ∷ c ∷ w EQ ∷ d ∷ []) (a ∷ w BETWEEN ∷ w LP ∷ w NOT ∷ b ∷ w RP ∷ w AND ∷ w LP ∷ w NOT ∷ w LP ∷ c ∷ w EQ ∷ d ∷ w RP ∷ w RP ∷ []) (w LP ∷ a ∷ w BETWEEN ∷ w NOT ∷ b ∷ w AND ∷ w NOT ∷ c ∷ w RP ∷ w EQ ∷ d ∷ [])
+    -- a NOT BETWEEN NOT b IS c AND d
+    ∷ groups (a ∷ w NOT ∷ w BETWEEN ∷ w NOT ∷ b ∷ w IS ∷ c ∷ w AND ∷ d ∷ []) (a ∷ w NOT ∷ w BETWEEN ∷ w LP ∷ w NOT ∷ w LP ∷ b ∷ w IS ∷ c ∷ w RP ∷ w RP ∷ w AND ∷ d ∷ []) (a ∷ w NOT ∷ w BETWEEN ∷ w LP ∷ w LP ∷ w NOT ∷ b ∷ w RP ∷ w IS ∷ c ∷ w RP ∷ w AND ∷ d ∷ [])
+    -- a NOT LIKE NOT b = c
+    ∷ groups (a ∷ w NOT ∷ v LIKE-KW 1 ∷ w NOT ∷ b ∷ w EQ ∷ c ∷ []) (a ∷ w NOT ∷ v LIKE-KW 1 ∷ w LP ∷ w NOT ∷ w LP ∷ b ∷ w EQ ∷ c ∷ w RP ∷ w RP ∷ []) (w LP ∷ a ∷ w NOT ∷ v LIKE-KW 1 ∷ w NOT ∷ b ∷ w RP ∷ w EQ ∷ c ∷ [])
+    -- a IS NOT NOT b
+    ∷ groups (a ∷ w IS ∷ w NOT ∷ w NOT ∷ b ∷ []) (a ∷ w IS ∷ w NOT ∷ w LP ∷ w NOT ∷ b ∷ w RP ∷ []) (a ∷ w IS ∷ w LP ∷ w NOT ∷ w LP ∷ w NOT ∷ b ∷ w RP ∷ w RP ∷ [])
+    -- NOT a = NOT b OR c
+    ∷ groups (w NOT ∷ a ∷ w EQ ∷ w NOT ∷ b ∷ w OR ∷ c ∷ []) (w LP ∷ w NOT ∷ w LP ∷ a ∷ w EQ ∷ w LP ∷ w NOT ∷ b ∷ w RP ∷ w RP ∷ w RP ∷ w OR ∷ c ∷ []) (w NOT ∷ w LP ∷ a ∷ w EQ ∷ w LP ∷ w NOT ∷ w LP ∷ b ∷ w OR ∷ c ∷ w RP ∷ w RP ∷ w RP ∷ [])
+    -- a IN ( b , c = NOT d )
+    ∷ groups (a ∷ w IN ∷ w LP ∷ b ∷ w COMMA ∷ c ∷ w EQ ∷ w NOT ∷ d ∷ w RP ∷ []) (a ∷ w IN ∷ w LP ∷ b ∷ w COMMA ∷ c ∷ w EQ ∷ w LP ∷ w NOT ∷ d ∷ w RP ∷ w RP ∷ []) (a ∷ w IN ∷ w LP ∷ b ∷ w COMMA ∷ w LP ∷ c ∷ w EQ ∷ w NOT ∷ d ∷ w RP ∷ w EQ ∷ d ∷ w RP ∷ [])
+    -- CASE a = NOT b WHEN c THEN d END
+    ∷ groups (w CASE ∷ a ∷ w EQ ∷ w NOT ∷ b ∷ w WHEN ∷ c ∷ w THEN ∷ d ∷ w END ∷ []) (w CASE ∷ w LP ∷ a ∷ w EQ ∷ w LP ∷ w NOT ∷ b ∷ w RP ∷ w RP ∷ w WHEN ∷ c ∷ w THEN ∷ d ∷ w END ∷ []) (w CASE ∷ w WHEN ∷ a ∷ w EQ ∷ w NOT ∷ b ∷ w THEN ∷ d ∷ w END ∷ [])
+    -- a = NOT b c
+    ∷ groups (a ∷ w EQ ∷ w NOT ∷ b ∷ c ∷ []) (a ∷ w EQ ∷ w LP ∷ w NOT ∷ b ∷ w RP ∷ w AS ∷ c ∷ []) (a ∷ w EQ ∷ w NOT ∷ b ∷ [])
     ∷ []
 
 -- the expression as a command

@@ -1,6 +1,6 @@
 -- samples-hold: of every sample command, for every node table of 4,096 numbers and outputs that hold the writing, the outcome in the table
--- is the one that `Reads` promises (and `Writes`, for an accepted one). By one test that computes, over the whole table, through the
--- machine. Assumes nothing.
+-- is the one that `Reads` promises (and `Writes`, for an accepted one, which is within the limits). By one test that computes, over the whole
+-- table, through the machine. Assumes nothing.
 use mathlib.Core.Bool.{true, false, Bool}
 use mathlib.Core.List.{List, [], _∷_}
 use mathlib.Core.Logic.{inl, inr}
@@ -9,7 +9,7 @@ use Prim.Native.Nat.{ℕ, _≤_, _<_, suc, _*_}
 use lib.Dec.{eqb, leb}
 use lib.ListN.{length}
 use native.Mathlib.Omega.{arith}
-use Rattle.theory.specs.Trees.{Tok, capOf}
+use Rattle.theory.specs.Trees.{Tok, Tree, capOf}
 use Rattle.theory.specs.Table.{pick, both, onRow, mem, lookup, asked, enterOf, contOf, nullOf}
 use Rattle.theory.specs.Outcome.{Ans, got, refused, Outcome}
 use Rattle.theory.proofs.Machine.{onBool, onFed, feed, step, next}
@@ -24,7 +24,7 @@ use Rattle.words.specs.Words.{words, equal}
 use Rattle.words.specs.Flags.{flagsOf}
 use Rattle.words.specs.Fewest.{endings, endingOf, fewestOf}
 use Rattle.grammar.specs.Classes.{Command, any}
-use Rattle.grammar.specs.Rows.{butColumn, exprs, selectItems, valuesItems, lines, headsOf, tailsOf, optional}
+use Rattle.grammar.specs.Rows.{butColumn, butIs, exprs, selectItems, valuesItems, lines, headsOf, tailsOf, optional}
 use Rattle.grammar.specs.Grammar.{sql, G}
 use Rattle.grammar.specs.Sizes.{TOKENS, WIDTH}
 use Rattle.grammar.specs.Limits.{Around, outer, isQuery, below, under, furtherFlags, members, lastChild, childrenBefore, width, widthOf, begun, isKind, judge}
@@ -90,7 +90,7 @@ unfoldable pub good : Sample → Bool
 good s = both (both (leb (length (s .command)) TOKENS) (leb (WIDTH * length (s .records)) PLACES)) (both (fitting (s .command)) (answers s (parsed (s .command))))
 
 pub samples-good : allb good samples ≡ true
-unfolding samples times around good fitting answers found eqAll eqRec eqTok allb fits fitText sql lines butColumn exprs selectItems valuesItems headsOf tailsOf optional pick both mem lookup asked enterOf contOf nullOf capOf onBool onRow onFed feed step next check sum fault scanA onNextA onEndA faultOf isQuery below furtherFlags members lastChild childrenBefore width widthOf begun isKind judge side opt _#_ nameCode literalCode column limitAndOffset group inside rules ruled valueOf value values reading choose isEnd beside count records flagsOf words plainDetail isOne unwrapped meaning _!_ butFirst at after joined each parted rows grouped joinWords joinOf whens binaryToks binaryStr nodeStr forms formed piece pieces writing fewestOf endings endingOf strengthOf prefixOf
+unfolding samples times around good fitting answers found eqAll eqRec eqTok allb fits fitText sql lines butColumn butIs exprs selectItems valuesItems headsOf tailsOf optional pick both mem lookup asked enterOf contOf nullOf capOf onBool onRow onFed feed step next check sum fault scanA onNextA onEndA faultOf isQuery below furtherFlags members lastChild childrenBefore width widthOf begun isKind judge side opt _#_ nameCode literalCode column limitAndOffset group inside rules ruled valueOf value values reading choose isEnd beside count records flagsOf words plainDetail isOne unwrapped meaning _!_ butFirst at after joined each parted rows grouped joinWords joinOf whens binaryToks binaryStr nodeStr forms formed piece pieces writing fewestOf endings endingOf strengthOf prefixOf
 samples-good = refl
 
 -- ── what the test says of a sample ──
@@ -125,8 +125,15 @@ abbrev pub WrittenSo : Sample → Type 0
 WrittenSo s = s .number ≡ 0 → (N A B : List ℕ) → length N ≡ PLACES → length A ≡ length B → length (s .writing) ≤ length A
     → Writes (kindsOf (s .command)) (textsOf (s .command)) N A B 0 (length (s .writing)) (laid N (s .records)) (put (kindsOf (s .writing)) A) (put (textsOf (s .writing)) B)
 
+-- it is then a command within the limits, with these records and this writing
+pub record Taken (s : Sample) : Type 0 where
+  pub tree : Tree
+  pub accepted : Accepted (kindsOf (s .command)) (textsOf (s .command)) tree
+  pub records : recordsOf tree ≡ s .records
+  pub writing : writingOf tree ≡ s .writing
+
 abbrev pub Holds : Sample → Type 0
-Holds s = ReadSo s × WrittenSo s
+Holds s = ReadSo s × WrittenSo s × (s .number ≡ 0 → Taken s)
 
 some-number : {ts : List Tok} (m p : ℕ) → Outcome Around under judge G outer (any Command) ts (refused m p) → 0 < m
 some-number m p (inl o) = omega (arith, o .0)
@@ -171,6 +178,7 @@ module _ (s : Sample) (ok : good s ≡ true) where
       let a : Accepted (kindsOf (s .command)) (textsOf (s .command)) (o .0) = record { lent = lent; fit = fit; derived = o .4; within = o .5 } in (
         (λ N h. accepted (o .0) a (rw (q, h) room) z (y ∙ ap length (sym q)) (choose-true _ _ _ (eqb-true (s .number) 0 z) ∙ ap (laid N) (sym q))),
         (λ w N A B h g l. written (o .0) g a (rw (q, h) room) (rw u l) refl (ap length (sym u)) (ap (laid N) (sym q)) (ap (λ x. put (kindsOf x) A) (sym u)) (ap (λ x. put (textsOf x) B) (sym u))),
+        (λ w. record { tree = o .0; accepted = a; records = q; writing = u }),
       )
   by-answer (refused m p) o e =
       let y : s .number ≡ m = eqb-eq (s .number) m (both-l _ (eqb (s .place) p) e) in
@@ -178,6 +186,7 @@ module _ (s : Sample) (ok : good s ≡ true) where
       let b : 0 < m = some-number m p o in (
         (λ N h. let k : leftBy s N ≡ N = choose-false _ _ _ (not-true _ (λ w. absurd (let a = eqb-eq (s .number) 0 w in omega (arith, a, b, y)))) in
             rw (k, y, z) (is-answered (kindsOf (s .command)) (textsOf (s .command)) N lent fit (refused m p) o)),
+        (λ w. absurd (omega (arith, w, b, y))),
         (λ w. absurd (omega (arith, w, b, y))),
       )
 

@@ -44,6 +44,9 @@ SecondName = 30
 abbrev pub Not : ℕ
 Not = 29
 
+abbrev pub IsRight : ℕ
+IsRight = 31
+
 abbrev pub Semi? : ℕ
 Semi? = 40
 
@@ -125,9 +128,6 @@ Base? = 65
 abbrev pub Args? : ℕ
 Args? = 66
 
-abbrev pub IsNot? : ℕ
-IsNot? = 67
-
 abbrev pub NameRest? : ℕ
 NameRest? = 68
 
@@ -146,3 +146,7 @@ E s = record { of = Expr; least = s }
 
 abbrev pub any : ℕ → Nt
 any C = record { of = C; least = 0 }
+
+-- what follows IS
+abbrev pub afterIs : Nt
+afterIs = record { of = IsRight; least = 5 }

@@ -6,13 +6,13 @@ use Rattle.theory.specs.Derives.{Derives, Begins}
 use Rattle.theory.specs.Table.{Table, gram}
 use Rattle.grammar.specs.Classes.{eof, Command, any}
 use Rattle.grammar.specs.Rows.{lines, headsOf, tailsOf, optional}
-use Rattle.grammar.specs.Follow.{find, follows, witnesses}
+use Rattle.grammar.specs.Follow.{find, coming, follows, witnesses}
 
 abbrev pub bare : ℕ → Tok
 bare k = record { kind = k; text = 0 }
 
 unfoldable pub sql : Table
-sql = record { heads = headsOf lines; tails = tailsOf lines; nulls = optional; follow = λ A. find A follows; witness = λ A. map bare (find A witnesses); eof = eof }
+sql = record { heads = headsOf lines; tails = tailsOf lines; nulls = optional; follow = λ A. coming A follows; witness = λ A. map bare (find A witnesses); eof = eof }
 
 abbrev pub G : Gram
 G = gram sql

@@ -3,7 +3,7 @@
 use mathlib.Core.Bool.{Bool}
 use mathlib.Core.List.{List, [], _∷_, _++_, map}
 use Prim.Native.Nat.{ℕ, zero, suc}
-use lib.Dec.{ltb, eqb, leb}
+use lib.Dec.{ltb, eqb}
 use Rattle.theory.specs.Trees.{Tok, Row, Tree, nil, add, leaf, node, toks}
 use Rattle.theory.specs.Table.{pick, both}
 use Rattle.kinds.specs.Kinds.{RP, JOIN}
@@ -11,7 +11,7 @@ use Rattle.words.specs.Flags.{NO-FLAGS, legal}
 use Rattle.words.specs.Sequences.{unitedAll}
 use Rattle.grammar.specs.RowNames.{row-next-row, row-word-join}
 use Rattle.grammar.specs.Sizes.{LEVELS, QUERIES}
-use Rattle.grammar.specs.Limits.{isQuery, width}
+use Rattle.grammar.specs.Limits.{isQuery, isExpression, width}
 
 -- level: of the expression that starts at the token (0: none starts). opened: how many queries are open with the one that opens there
 -- (0: none opens). flags: of the join whose JOIN it is (no flags: of none). long, first: the length of the further row whose RP it is, and
@@ -25,10 +25,6 @@ pub record Mark : Type 0 where
 
 abbrev pub unmarked : Mark
 unmarked = record { level = 0; opened = 0; flags = NO-FLAGS; long = 0; first = 0 }
-
--- an expression is what has a strength
-unfoldable pub isExpression : Row → Bool
-isExpression r = leb 1 (r .str)
 
 -- "a clause's or row's expression in the outer query is at 1; a column name DOT STAR counts as one"; "Queries open at once, the outer
 -- counted". With a left operand it started before: "A left operand has its whole's level"

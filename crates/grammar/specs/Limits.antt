@@ -9,7 +9,7 @@ use Rattle.theory.specs.Table.{pick, both}
 use Rattle.theory.specs.Judged.{faultsOf}
 use Rattle.kinds.specs.Kinds.{RP, JOIN}
 use Rattle.words.specs.Flags.{NO-FLAGS, flagsOf, united, legal}
-use Rattle.grammar.specs.RowNames.{row-select, row-values, row-next-row, row-word-join}
+use Rattle.grammar.specs.RowNames.{row-select, row-values, row-next-row, row-word-join, row-is-not}
 use Rattle.grammar.specs.Sizes.{LEVELS, QUERIES}
 
 -- the level of an expression that begins here; the queries that are open
@@ -24,11 +24,15 @@ outer = record { level = 1; opened = 0 }
 unfoldable pub isQuery : ℕ → Bool
 isQuery c = pick (eqb c row-select) true (λ w. eqb c row-values)
 
+-- an expression is what has a strength; the NOT of IS NOT, which stands where an operand may, is none
+abbrev pub isExpression : Row → Bool
+isExpression r = pick (eqb (r .code) row-is-not) false (λ w. leb 1 (r .str))
+
 -- "A left operand has its whole's level", for it stands before the row; "every other operand, member, argument or part is one deeper":
--- so is all that stands inside a row with a strength. "Clause expressions of a query inside an expression are one deeper than that
+-- so is all that stands inside an expression. "Clause expressions of a query inside an expression are one deeper than that
 -- expression; of a query in FROM, as deep as the query around it": a query's row has no strength. Inside it one more query is open
 unfoldable pub below : Row → Around → Around
-below r c = record { level = pick (leb 1 (r .str)) (c .level + 1) (λ w. c .level); opened = pick (isQuery (r .code)) (c .opened + 1) (λ w. c .opened) }
+below r c = record { level = pick (isExpression r) (c .level + 1) (λ w. c .level); opened = pick (isQuery (r .code)) (c .opened + 1) (λ w. c .opened) }
 
 -- it is the same for every child of a row
 abbrev pub under : Row → Tree → Tok → Tree → Around → Around
@@ -74,7 +78,7 @@ widthOf (node r l t f) = width f
 
 -- where a row begins: "5 | a level-65 expression starts"; "6 | a 17th query opens"
 unfoldable pub begun : Around → Row → Tree → ℕ
-begun c r nil = pick (both (leb 1 (r .str)) (ltb LEVELS (c .level))) 5 (λ w. pick (both (isQuery (r .code)) (leb QUERIES (c .opened))) 6 (λ w. 0))
+begun c r nil = pick (both (isExpression r) (ltb LEVELS (c .level))) 5 (λ w. pick (both (isQuery (r .code)) (leb QUERIES (c .opened))) 6 (λ w. 0))
 begun c r (add f x) = 0
 begun c r (leaf t) = 0
 begun c r (node q l t f) = 0

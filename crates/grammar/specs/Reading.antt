@@ -165,8 +165,8 @@ rules =
     -- "38 | prefix kind; operand"; "39 | binary kind, IS NOT 137, LIKE_KW 200 + text, NOT LIKE_KW 300 + text; two operands"
     ∷ rule row-prefix (λ l t k. one node-prefix (t .kind) k)
     ∷ rule row-binary (λ l t k. one node-binary (t .kind) (l ∷ k))
-    ∷ rule row-is (λ l t k. one node-binary (t .kind + (k # 0) .num) (l ∷ k # 1 ∷ []))
-    ∷ rule row-is-not (λ l t k. says 100)
+    ∷ rule row-is (λ l t k. one node-binary (t .kind + (k # 0) .num) (l ∷ k))
+    ∷ rule row-is-not (λ l t k. saying 100 (cat k))
     ∷ rule row-like (λ l t k. one node-binary (200 + t .text) (l ∷ k))
     -- "41, 42 | 1 if NOT; operand and list; operand and query"; "43 | 1 if NOT; operand, two bounds"; "40 | ISNULL 41, NOTNULL or NOT NULL 42; operand"; "44 | operand, name"
     ∷ rule row-in (λ l t k. one (choose (isQueryVal (k # 1)) node-in-query node-in-list) 0 (l ∷ inside (k # 1) ∷ []))

@@ -5,7 +5,7 @@ use Prim.Native.Nat.{ℕ, _+_}
 use Rattle.theory.specs.Trees.{Item, lit, nt, Row}
 use Rattle.theory.specs.Table.{Line}
 use Rattle.kinds.specs.Kinds.{ID, KWID, STRING, INDEXED, JOIN-KW, INTEGER, FLOAT, BLOB, VARIABLE, CTIME-KW, NULL, LP, RP, COMMA, DOT, SEMI, STAR, PLUS, MINUS, SLASH, REM, CONCAT, BITAND, BITOR, LSHIFT, RSHIFT, BITNOT, EQ, NE, LT, LE, GT, GE, AND, OR, NOT, IS, IN, BETWEEN, LIKE-KW, ISNULL, NOTNULL, COLLATE, CASE, WHEN, THEN, ELSE, END, CAST, AS, EXISTS, SELECT, VALUES, DISTINCT, ALL, FROM, JOIN, ON, USING, WHERE, GROUP, BY, HAVING, ORDER, ASC, DESC, NULLS, FIRST, LAST, LIMIT, OFFSET}
-use Rattle.grammar.specs.Classes.{Expr, Command, Name, Query, Paren, FirstLast, Rows, Column, StarOrName, Source, SecondName, Not, Semi?, Names?, Exprs?, Inside?, Order?, Terms?, Way?, Nulls?, Limit?, Offset?, Distinct?, Columns?, From?, Where?, Group?, Having?, ColRest?, ColDots?, Joins?, Word2?, Word3?, On?, Dot?, Alias?, Index?, Base?, Args?, IsNot?, NameRest?, Dots?, Whens?, Else?, E, any}
+use Rattle.grammar.specs.Classes.{Expr, Command, Name, Query, Paren, FirstLast, Rows, Column, StarOrName, Source, SecondName, Not, IsRight, Semi?, Names?, Exprs?, Inside?, Order?, Terms?, Way?, Nulls?, Limit?, Offset?, Distinct?, Columns?, From?, Where?, Group?, Having?, ColRest?, ColDots?, Joins?, Word2?, Word3?, On?, Dot?, Alias?, Index?, Base?, Args?, NameRest?, Dots?, Whens?, Else?, E, any, afterIs}
 use Rattle.grammar.specs.RowNames.{row-select, row-values, row-semi, row-name, row-next-name, row-next-expr, row-order, row-next-term, row-asc, row-desc, row-nulls, row-first, row-last, row-limit, row-offset, row-comma-offset, row-first-row, row-next-row, row-distinct, row-all, row-next-column, row-from, row-where, row-group, row-having, row-star, row-names, row-dot, row-dot-star, row-second-name, row-as, row-bare, row-comma-join, row-join, row-word-join, row-word, row-on, row-using, row-table, row-query-source, row-dot-name, row-source-as, row-source-bare, row-indexed-by, row-not-indexed, row-binary, row-prefix, row-is, row-is-not, row-like, row-in, row-between, row-not, row-not-like, row-not-in, row-not-between, row-not-null, row-null-test, row-collate, row-literal, row-call, row-star-args, row-distinct-args, row-parens, row-more-exprs, row-exists, row-case, row-next-when, row-else, row-cast}
 
 pub data Prod : Type 0 where
@@ -33,12 +33,20 @@ once c is = record { code = c; str = 0; left = 1; cap = 99; items = is }
 abbrev pub ending : ℕ → List Item → Row
 ending c is = record { code = c; str = 0; left = 0; cap = 0; items = is }
 
--- the classes in which an expression may stand: the last five are an expression, or something besides; a column's names are its own
+-- it stands where s or looser is asked, and leaves c: what ends in it is no left operand of what asks more
+abbrev pub running : ℕ → ℕ → ℕ → List Item → Row
+running s c code is = record { code = code; str = s; left = s; cap = c; items = is }
+
+-- the classes in which an expression may stand: all but the first are an expression, or something besides. A column has rows of its own for names,
+-- and what follows IS one for NOT
 unfoldable pub butColumn : List ℕ
-butColumn = Expr ∷ Base? ∷ Paren ∷ Inside? ∷ Args? ∷ []
+butColumn = Expr ∷ Base? ∷ Paren ∷ Inside? ∷ Args? ∷ IsRight ∷ []
+
+unfoldable pub butIs : List ℕ
+butIs = Expr ∷ Base? ∷ Paren ∷ Inside? ∷ Args? ∷ Column ∷ []
 
 unfoldable pub exprs : List ℕ
-exprs = Expr ∷ Base? ∷ Paren ∷ Inside? ∷ Args? ∷ Column ∷ []
+exprs = Expr ∷ Base? ∷ Paren ∷ Inside? ∷ Args? ∷ Column ∷ IsRight ∷ []
 
 abbrev pub operand : List ℕ → Row → Prod
 operand ks r = begins exprs ks r
@@ -115,10 +123,12 @@ lines =
     -- ── Operators, from loose to tight. "A left operand has its operator's strength or tighter, a right one is strictly tighter."
     ∷ operator (OR ∷ []) (binary 1)  -- binary, strength 1
     ∷ operator (AND ∷ []) (binary 2)  -- binary, strength 2
-    ∷ operand (NOT ∷ []) (strong 3 row-prefix (nt (E 3) ∷ []))  -- NOT before: "a prefix operand has its prefix's strength or more"
+    -- "the right operand of a binary operator of strengths 4 to 9, and each bound of BETWEEN, may begin with NOT": it stands where 10 or looser is asked.
+    -- "its operand then runs on at NOT's own strength", 3. "What ends in such a NOT is no left operand of an operator of strengths 4 to 10": it leaves 3
+    ∷ begins butIs (NOT ∷ []) (running 10 3 row-prefix (nt (E 3) ∷ []))  -- NOT before
     ∷ operator (EQ ∷ NE ∷ []) (binary 4)  -- binary, strength 4
-    ∷ operator (IS ∷ []) (strong 4 row-is (nt (any IsNot?) ∷ nt (E 5) ∷ []))  -- IS, IS NOT: "NOT after IS always makes IS NOT"
-    ∷ begins (IsNot? ∷ []) (NOT ∷ []) (part row-is-not [])
+    ∷ operator (IS ∷ []) (strong 4 row-is (nt afterIs ∷ []))  -- IS, IS NOT: "NOT after IS always makes IS NOT"
+    ∷ begins (IsRight ∷ []) (NOT ∷ []) (running 5 4 row-is-not (nt (E 5) ∷ []))  -- IS NOT's own NOT, with the right operand
     ∷ operator (LIKE-KW ∷ []) (strong 4 row-like (nt (E 5) ∷ []))
     ∷ operator (IN ∷ []) (strong 4 row-in (lit LP ∷ nt (any Inside?) ∷ lit RP ∷ []))  -- "IN takes ( query ) or ( list ), the list may be empty"
     ∷ operator (BETWEEN ∷ []) (strong 4 row-between (nt (E 5) ∷ lit AND ∷ nt (E 5) ∷ []))  -- "BETWEEN's bounds have strength 5 or more"
@@ -168,4 +178,4 @@ tailsOf (rest cs ks r ∷ ls) = record { of = cs; at = ks; row = r } ∷ tailsOf
 
 -- the parts that may be absent
 unfoldable pub optional : List ℕ
-optional = Semi? ∷ Names? ∷ Exprs? ∷ Inside? ∷ Order? ∷ Terms? ∷ Way? ∷ Nulls? ∷ Limit? ∷ Offset? ∷ Distinct? ∷ Columns? ∷ From? ∷ Where? ∷ Group? ∷ Having? ∷ ColRest? ∷ ColDots? ∷ Joins? ∷ Word2? ∷ Word3? ∷ On? ∷ Dot? ∷ Alias? ∷ Index? ∷ Base? ∷ Args? ∷ IsNot? ∷ NameRest? ∷ Dots? ∷ Whens? ∷ Else? ∷ []
+optional = Semi? ∷ Names? ∷ Exprs? ∷ Inside? ∷ Order? ∷ Terms? ∷ Way? ∷ Nulls? ∷ Limit? ∷ Offset? ∷ Distinct? ∷ Columns? ∷ From? ∷ Where? ∷ Group? ∷ Having? ∷ ColRest? ∷ ColDots? ∷ Joins? ∷ Word2? ∷ Word3? ∷ On? ∷ Dot? ∷ Alias? ∷ Index? ∷ Base? ∷ Args? ∷ NameRest? ∷ Dots? ∷ Whens? ∷ Else? ∷ []

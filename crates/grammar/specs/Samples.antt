@@ -32,10 +32,10 @@ unfoldable pub times : {A : Type 0} → ℕ → List A → List A → List A
 times zero a b = b
 times (suc n) a b = a ++ times n a b
 
--- code 33 around what has this many records, n times
-unfoldable pub around : ℕ → ℕ → List Rec
-around zero s = []
-around (suc n) s = rec 33 0 1 (s + 1) ∷ around n (s + 1)
+-- a code with one child around what has s records, n times
+unfoldable pub around : ℕ → ℕ → ℕ → ℕ → List Rec
+around code detail zero s = []
+around code detail (suc n) s = rec code detail 1 (s + 1) ∷ around code detail n (s + 1)
 
 abbrev pub absent : Rec
 absent = rec 0 0 0 1
@@ -86,12 +86,14 @@ samples =
     (w SELECT ∷ v ID 1 ∷ w IN ∷ w LP ∷ w RP ∷ [])
     ∷ refusedAt (w SELECT ∷ v ID 1 ∷ w IN ∷ w LP ∷ v INTEGER 1 ∷ w COMMA ∷ w RP ∷ []) 3 6
     -- K10: SELECT, then 1 in 63 pairs of parentheses; in 64
-    ∷ acceptedAs (parens 63) (rec 24 1 0 1 ∷ (around 63 1 ++ (absent ∷ rec 7 0 2 66 ∷ rec 4 0 1 67 ∷ plain 67))) (w SELECT ∷ v INTEGER 1 ∷ [])
+    ∷ acceptedAs (parens 63) (rec 24 1 0 1 ∷ (around 33 0 63 1 ++ (absent ∷ rec 7 0 2 66 ∷ rec 4 0 1 67 ∷ plain 67))) (w SELECT ∷ v INTEGER 1 ∷ [])
     ∷ refusedAt (parens 64) 5 65
     -- K11: 17 SELECTs, each in the last's column
     ∷ refusedAt (times 16 (w SELECT ∷ w LP ∷ []) (w SELECT ∷ v INTEGER 1 ∷ times 16 (w RP ∷ []) [])) 6 32
-    -- K12: SELECT a = NOT b
-    ∷ refusedAt (w SELECT ∷ v ID 1 ∷ w EQ ∷ w NOT ∷ v ID 2 ∷ []) 3 3
+    -- K12: SELECT a = NOT b: written SELECT a = ( NOT b )
+    ∷ acceptedAs (w SELECT ∷ v ID 1 ∷ w EQ ∷ w NOT ∷ v ID 2 ∷ [])
+    (rec 20 1 0 1 ∷ rec 31 0 1 2 ∷ rec 20 2 0 1 ∷ rec 31 0 1 2 ∷ rec 38 36 1 3 ∷ rec 39 28 2 6 ∷ absent ∷ rec 7 0 2 8 ∷ rec 4 0 1 9 ∷ plain 9)
+    (w SELECT ∷ v ID 1 ∷ w EQ ∷ w LP ∷ w NOT ∷ v ID 2 ∷ w RP ∷ [])
     -- K13: SELECT ALL (a)+(b*c) x: written SELECT a + b * c AS x
     ∷ acceptedAs (w SELECT ∷ w ALL ∷ w LP ∷ v ID 1 ∷ w RP ∷ w PLUS ∷ w LP ∷ v ID 2 ∷ w STAR ∷ v ID 3 ∷ w RP ∷ v ID 4 ∷ [])
     (rec 20 1 0 1 ∷ rec 31 0 1 2 ∷ rec 33 0 1 3 ∷ rec 20 2 0 1 ∷ rec 31 0 1 2 ∷ rec 20 3 0 1 ∷ rec 31 0 1 2 ∷ rec 39 17 2 5 ∷ rec 33 0 1 6 ∷ rec 39 18 2 10 ∷ rec 20 4 0 1 ∷ rec 7 2 2 12 ∷ rec 4 0 1 13

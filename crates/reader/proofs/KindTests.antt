@@ -3,7 +3,7 @@ use mathlib.Core.Bool.{Bool, true, false, _||_}
 use mathlib.Core.List.{List, [], _∷_}
 use mathlib.Core.Logic.{_⊎_, inl, inr}
 use mathlib.Core.Path.{_≡_, refl, sym, ap, ap₂, _∙_, subst}
-use Prim.Native.Nat.{ℕ, zero, suc, _+_, _-_, _*_, _≤_, _<_}
+use Prim.Native.Nat.{ℕ, zero, suc, _+_, _-_, _*_, _≤_, _<_, min}
 use lib.Dec.{eqb, ltb, leb, T}
 use lib.ListN.{length, getD}
 use native.Mathlib.Omega.{arith}
@@ -23,8 +23,10 @@ use Rattle.descent.proofs.Fill.{Filled}
 use Rattle.descent.proofs.Walk.{Walked, done, stop, bind, onto, over, missing, deeper, tooDeepW, joinW, calledW, exprW, opW, opsW, listW, signW, partsW, tailW, selectW, selectedW}
 use Rattle.reader.specs.Bounds.{Lists, kindsOf, textsOf, strengthAsked, Seen}
 use Rattle.reader.specs.Laying.{Laid, TooDeep, isBare, beginsJoin}
+use Rattle.reader.specs.declared.Cursor.{Cursor}
 use Rattle.reader.specs.declared.Step.{Step}
-use Rattle.reader.proofs.Laying.{halted, by-walk, no-left, no-right}
+use Rattle.reader.specs.declared.Step.the-variants as step
+use Rattle.reader.proofs.Laying.{halted, left, goes, behind, by-walk, no-left, no-right}
 
 -- ── bare aliases ──
 pub bare-in : (k : ℕ) → 1 ≤ k → k ≤ 3 → isBareAlias k ≡ true
@@ -41,24 +43,24 @@ bare-out k h = rw (
 
 -- ── a level too deep ──
 abbrev deepNumber : ℕ → ℕ → ℕ
-deepNumber k s = choose (beginsExpr k) (choose (both (eqb k NOT) (ltb 3 s)) (wrong k) 5) (wrong k)
+deepNumber k s = choose (beginsExpr k) (choose (both (eqb k NOT) (ltb 10 s)) (wrong k) 5) (wrong k)
 
 pub deep-weak : (k s : ℕ) → beginsExpr k ≡ false → deepNumber k s ≡ wrong k
 unfolding choose
-deep-weak k s e = ap (λ z. choose z (choose (both (eqb k NOT) (ltb 3 s)) (wrong k) 5) (wrong k)) e
+deep-weak k s e = ap (λ z. choose z (choose (both (eqb k NOT) (ltb 10 s)) (wrong k) 5) (wrong k)) e
 
 same : (b : Bool) (x : ℕ) → choose b x x ≡ x
 unfolding choose
 same true x = refl
 same false x = refl
 
-pub deep-strong : (k s : ℕ) → k ≡ NOT → 3 < s → deepNumber k s ≡ wrong k
+pub deep-strong : (k s : ℕ) → k ≡ NOT → 10 < s → deepNumber k s ≡ wrong k
 unfolding choose both
-deep-strong k s e h = ap (λ z. choose (beginsExpr k) (choose (both (eqb z NOT) (ltb 3 s)) (wrong k) 5) (wrong k)) e ∙ ap (λ z. choose (beginsExpr k) (choose z (wrong k) 5) (wrong k)) (lt-ltb 3 s h) ∙ same (beginsExpr k) (wrong k)
+deep-strong k s e h = ap (λ z. choose (beginsExpr k) (choose (both (eqb z NOT) (ltb 10 s)) (wrong k) 5) (wrong k)) e ∙ ap (λ z. choose (beginsExpr k) (choose z (wrong k) 5) (wrong k)) (lt-ltb 10 s h) ∙ same (beginsExpr k) (wrong k)
 
-pub deep-five : (k s : ℕ) → beginsExpr k ≡ true → both (eqb k NOT) (ltb 3 s) ≡ false → deepNumber k s ≡ 5
+pub deep-five : (k s : ℕ) → beginsExpr k ≡ true → both (eqb k NOT) (ltb 10 s) ≡ false → deepNumber k s ≡ 5
 unfolding choose
-deep-five k s e d = ap (λ z. choose z (choose (both (eqb k NOT) (ltb 3 s)) (wrong k) 5) (wrong k)) e ∙ ap (λ z. choose z (wrong k) 5) d
+deep-five k s e d = ap (λ z. choose z (choose (both (eqb k NOT) (ltb 10 s)) (wrong k) 5) (wrong k)) e ∙ ap (λ z. choose z (wrong k) 5) d
 
 stops : (b d : Bool) (x at : ℕ) → choose b (choose d (stop x at) (stop 5 at)) (stop x at) ≡ stop (choose b (choose d x 5) x) at
 unfolding choose
@@ -70,7 +72,7 @@ pub deep-walk : {made : ℕ} {N N' : List ℕ} {r : Step} {io : Lists} {at kind 
 unfolding tooDeepW
 deep-walk {io = io} {at = at} {kind = kind} ask s e a h =
     let k : ℕ = getD (kindsOf io) at 0 in
-    halted h (stops (beginsExpr k) (both (eqb k NOT) (ltb 3 s)) (wrong k) at ∙ ap (λ z. stop (deepNumber z s) at) (sym (e .is)) ∙ ap (λ z. stop (deepNumber kind z) at) (sym a))
+    halted h (stops (beginsExpr k) (both (eqb k NOT) (ltb 10 s)) (wrong k) at ∙ ap (λ z. stop (deepNumber z s) at) (sym (e .is)) ∙ ap (λ z. stop (deepNumber kind z) at) (sym a))
 
 -- ── join words ──
 module _ (K T : List ℕ) where
@@ -199,7 +201,7 @@ no-sign k d h = rw (
 
 -- the walk of such an operator, by its kind and strength
 abbrev pub signedW : List ℕ → List ℕ → ℕ → ℕ → Around → ℕ → ℕ → ℕ → Walked
-signedW K T f at c s k q = choose (ltb q s) (stop (wrong k) at) (bind (exprW K T f (at + 1) (deeper c) q) (λ a x n rs. done a q 0 (over 38 k 1 0 rs)))
+signedW K T f at c s k q = choose (both (eqb k NOT) (ltb 10 s)) (stop (wrong k) at) (bind (exprW K T f (at + 1) (deeper c) q) (λ a x n rs. done a (min q x) 0 (over 38 k 1 0 rs)))
 
 pub prefix-walk : {made : ℕ} {N N' : List ℕ} {r : Step} {io : Lists} {at kind q : ℕ} (f : ℕ) (c : Around) (s : ℕ) → Seen io at kind → q ≡ prefixOf kind
     → Laid made N N' (signedW (kindsOf io) (textsOf io) f at c s kind q) r → Laid made N N' (signW (kindsOf io) (textsOf io) (suc f) at c s) r
@@ -241,12 +243,19 @@ goingW K T f at c s left pre k =
     choose (eqb k 0) (done at left 0 [])
     (choose (ltb k s) (done at left 0 [])
     (choose (ltb left k) (done at left 0 [])
-    (bind (opW K T f at (deeper c) (k + 1) pre) (λ a x n rs. onto rs (opsW K T f a c s k (pre + length rs))))))
+    (bind (opW K T f at (deeper c) (k + 1) pre) (λ a x n rs. onto rs (opsW K T f a c s (min k x) (pre + length rs))))))
 
 pub ops-walk : {made : ℕ} {N N' : List ℕ} {r : Step} {io : Lists} {at kind k : ℕ} (f : ℕ) (c : Around) (s left pre : ℕ) → Seen io at kind → k ≡ strengthOf kind
     → Laid made N N' (goingW (kindsOf io) (textsOf io) f at c s left pre k) r → Laid made N N' (opsW (kindsOf io) (textsOf io) (suc f) at c s left pre) r
 unfolding exprW
 ops-walk {io = io} {at = at} f c s left pre e p l = by-walk (ap (λ z. goingW (kindsOf io) (textsOf io) f at c s left pre (strengthOf z)) (sym (e .is)) ∙ ap (λ z. goingW (kindsOf io) (textsOf io) f at c s left pre z) (sym p)) l
+
+-- an operator that was read, and those that go on from there
+pub ops-goes : {made : ℕ} {N M N' : List ℕ} {r q : Step} {io : Lists} {at kind k said count new : ℕ} {d : Cursor} (f : ℕ) (c : Around) (s left pre : ℕ) → Seen io at kind → k ≡ strengthOf kind → new ≡ min k said
+    → eqb k 0 ≡ false → ltb k s ≡ false → ltb left k ≡ false → Laid made N M (opW (kindsOf io) (textsOf io) f at (deeper c) (k + 1) pre) q → q ≡ step.Got said count d
+    → ((rs : List Rec) → Filled N M made (d .made) rs → Laid (d .made) M N' (opsW (kindsOf io) (textsOf io) f (d .at) c s new (pre + length rs)) r) → Laid made N N' (opsW (kindsOf io) (textsOf io) (suc f) at c s left pre) r
+ops-goes {io = io} {d = d} f c s x pre e p n z i j h g l =
+    ops-walk f c s x pre e p (left _ _ _ z (left _ _ _ i (left _ _ _ j (goes _ _ h g (λ rs F. behind _ _ F (by-walk (ap (λ y. opsW (kindsOf io) (textsOf io) f (d .at) c s y (pre + length rs)) (sym n)) (l rs F)))))))
 
 pub indexed-heads-none : (k : ℕ) → k ≡ 4 → headsCall k ≡ false
 unfolding headsCall

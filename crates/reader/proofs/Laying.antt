@@ -28,6 +28,10 @@ module _ {made : ℕ} {N N' : List ℕ} {w : Walked} {r : Step} where
   pub laid : {s n : ℕ} {d : Cursor} {rs : List Rec} → r ≡ step.Got s n d → w ≡ done (d .at) s n rs → Filled N N' made (d .made) rs → Laid made N N' w r
   laid {rs = rs} e a f = record { holds = subst⁻¹ (λ (s : Step). LaidAt made N N' w s) e (rs, a, f) }
 
+  -- its first number told in another way
+  pub laid-as : {s t n : ℕ} {d : Cursor} {rs : List Rec} → r ≡ step.Got s n d → s ≡ t → w ≡ done (d .at) t n rs → Filled N N' made (d .made) rs → Laid made N N' w r
+  laid-as {n = n} {d = d} {rs = rs} e q a f = laid e (a ∙ ap (λ z. done (d .at) z n rs) (sym q)) f
+
   pub halted : {m p : ℕ} → r ≡ step.Refused m p → w ≡ stop m p → Laid made N N' w r
   halted e a = record { holds = subst⁻¹ (λ (s : Step). LaidAt made N N' w s) e a }
 

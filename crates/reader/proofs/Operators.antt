@@ -118,12 +118,12 @@ module _ {io : Lists} {at kind not word made : ℕ} {N N' : List ℕ} {r : Step}
         place n = omega (arith, n)
 
     -- ISNULL or NOTNULL
-    pub op-postfix : (kind ≡ 37 → ⊥) → (kind ≡ 43 → ⊥) → Laid made N N' (done (at + not + 1) 4 0 (one 40 kind 1 (pre + 1))) r → Later (λ f. Laid made N N' (opW (kindsOf io) (textsOf io) f at a s pre) r)
+    pub op-postfix : (kind ≡ 37 → ⊥) → (kind ≡ 43 → ⊥) → Laid made N N' (done (at + not + 1) 12 0 (one 40 kind 1 (pre + 1))) r → Later (λ f. Laid made N N' (opW (kindsOf io) (textsOf io) f at a s pre) r)
     unfolding exprW
     op-postfix x y l =
         let q = other at h way o i b k in
         at-once (λ f. left _ _ _ (by-kind (λ k. ltb k 36) seen (le-ltb kind 36 h)) (left _ _ _ (isn't seen (q .0)) (left _ _ _ (isn't seen (q .2)) (left _ _ _ (isn't seen (q .3)) (left _ _ _ (isn't seen (q .4)) (left _ _ _ (isn't seen x) (left _ _ _ (isn't seen y)
-        (by-walk (ap (λ z. done z 4 0 (one 40 (getD (kindsOf io) at 0) 1 (pre + 1))) (place (q .1)) ∙ ap (λ z. done (at + not + 1) 4 0 (one 40 z 1 (pre + 1))) (sym (seen .is))) l))))))))
+        (by-walk (ap (λ z. done z 12 0 (one 40 (getD (kindsOf io) at 0) 1 (pre + 1))) (place (q .1)) ∙ ap (λ z. done (at + not + 1) 12 0 (one 40 z 1 (pre + 1))) (sym (seen .is))) l))))))))
       where
         place : not ≡ 0 → at + 1 ≡ at + not + 1
         place n = omega (arith, n)

@@ -91,7 +91,7 @@ module _ {next made word : ℕ} {r : Step} where
   null-refused h e = record { holds = subst⁻¹ (λ (s : Step). NullBeforeAt next made word s) (h .is) e }
 
   pub null-got : {said count : ℕ} {d : Cursor} → r ≡ step.Got said count d
-      → (word ≡ 11) × (d .at ≡ next) × (d .made ≡ made + 1) × (count ≡ 0) × (said ≡ 4) → NullBefore next made word r
+      → (word ≡ 11) × (d .at ≡ next) × (d .made ≡ made + 1) × (count ≡ 0) × (said ≡ 12) → NullBefore next made word r
   null-got e h = record { holds = subst⁻¹ (λ (s : Step). NullBeforeAt next made word s) e h }
 
 -- what is asked, where a query opens

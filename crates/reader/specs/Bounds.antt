@@ -121,7 +121,7 @@ pub record Opens (ask : ℕ) (r : Step) : Type 0 where
 
 -- NULL before `next` and a record more, or a refusal there
 abbrev pub NullBeforeAt : ℕ → ℕ → ℕ → Step → Type 0
-NullBeforeAt next made word (step.Got said count d) = (word ≡ 11) × (d .at ≡ next) × (d .made ≡ made + 1) × (count ≡ 0) × (said ≡ 4)
+NullBeforeAt next made word (step.Got said count d) = (word ≡ 11) × (d .at ≡ next) × (d .made ≡ made + 1) × (count ≡ 0) × (said ≡ 12)
 NullBeforeAt next made word (step.Refused n p) = p ≡ next - 1
 
 pub record NullBefore (next made word : ℕ) (r : Step) : Type 0 where

@@ -63,7 +63,7 @@ Misfit kind at r = r ≡ step.Refused (wrong kind) at
 
 -- 5, but 3 goes before it
 abbrev pub TooDeep : ℕ → ℕ → ℕ → Step → Type 0
-TooDeep kind s at r = r ≡ step.Refused (choose (beginsExpr kind) (choose (both (eqb kind NOT) (ltb 3 s)) (wrong kind) 5) (wrong kind)) at
+TooDeep kind s at r = r ≡ step.Refused (choose (beginsExpr kind) (choose (both (eqb kind NOT) (ltb 10 s)) (wrong kind) 5) (wrong kind)) at
 
 abbrev pub one : ℕ → ℕ → ℕ → ℕ → List Rec
 one code detail n size = rec code detail n size ∷ []
@@ -82,7 +82,7 @@ literalText io at kind = choose (eqb kind NULL) 0 (getD (textsOf io) at 0)
 
 -- after NOT: NULL, before `next`
 abbrev pub notNullW : ℕ → ℕ → ℕ → ℕ → Walked
-notNullW word next before pre = choose (eqb word NULL) (done next 4 0 (one 40 NOTNULL 1 (pre + 1))) (stop (wrong word) before)
+notNullW word next before pre = choose (eqb word NULL) (done next 12 0 (one 40 NOTNULL 1 (pre + 1))) (stop (wrong word) before)
 
 -- rows, and the record over them
 abbrev pub allRowsW : List ℕ → List ℕ → ℕ → ℕ → Around → Walked

@@ -1,7 +1,7 @@
 // The reader: a list of tokens into records, or a refusal. One walker for both passes: the first, lent an
 // empty table, judges and counts; the second writes.
 ghost use mathlib.Core.Path.{_≡_};
-ghost use Prim.Native.Nat.{ℕ, _+_, _-_, _*_, _/_, _<_, _≤_};
+ghost use Prim.Native.Nat.{ℕ, _+_, _-_, _*_, _/_, _<_, _≤_, min};
 ghost use mathlib.Core.Bool.{true};
 ghost use mathlib.Core.List.{List, [], _∷_, _++_};
 ghost use lib.Dec.{eqb};
@@ -115,6 +115,9 @@ const TOO_DEEP: u32 = (LEVELS + 1) * LEVEL;
 
 // What a column asks: an expression, or name DOT STAR besides.
 const COLUMN: u32 = 0;
+
+// NOT stands where this strength or a looser one is asked: so right of every binary operator, and not of a sign.
+const NOT_STANDS: u32 = 10;
 
 fn asked(ask: u32) -> u32
     ensures { λ r. ⌜ r ≡ strengthAsked ask ⌝ }
@@ -379,14 +382,24 @@ fn too_deep(kind: u32, at: u32, ask: u32) -> Step
         return wrong(kind, at);
     }
     if kind == NOT {
-        if asked(ask) > 3 {
+        if asked(ask) > NOT_STANDS {
             return wrong(kind, at);
         }
     }
     Step::Refused(5, at as u16)
 }
 
-// The operators that go on from an operand of strength `first`.
+// What is left after an operator: no more than its own strength, nor than its right operand leaves.
+fn least(a: u32, b: u32) -> u32
+    ensures { λ r. ⌜ r ≡ min a b ⌝ }
+{
+    if b < a {
+        return b;
+    }
+    a
+}
+
+// The operators that go on from an operand that leaves `first`: the tightest of them that may.
 fn ops(
     io: &[&[u32]; 3],
     nodes: &mut [u32],
@@ -416,12 +429,12 @@ fn ops(
             break;
         }
         let r = op(io, nodes, at, made, base, kind, deeper(ask, k + 1));
-        let Step::Got(_, _, d) = r else {
+        let Step::Got(said, _, d) = r else {
             return r;
         };
         at = d.at;
         made = d.made;
-        left = k;
+        left = least(k, said as u32);
     }
     got(at, made, left as u8)
 }
@@ -468,7 +481,7 @@ fn op(
                 COLLATE => collate(io, nodes, next, made, base),
                 _ => {
                     let m = emit(nodes, made, 40, kind, 1, made - base + 1);
-                    got(next, m, 4)
+                    got(next, m, 12)
                 }
             }
         }
@@ -483,7 +496,7 @@ fn notnull(nodes: &mut [u32], next: u32, made: u32, base: u32, word: u32) -> Ste
         return wrong(word, next - 1);
     }
     let m = emit(nodes, made, 40, NOTNULL, 1, made - base + 1);
-    got(next, m, 4)
+    got(next, m, 12)
 }
 
 fn binary(
@@ -499,11 +512,11 @@ fn binary(
     ensures { λ r. ⌜ Within 1 1 (now (io .entry)) at made r × ((s pre : ℕ) → made ≡ base + pre → Does s ask made (now (nodes .entry)) (now (nodes .exit)) (now (io .entry)) (λ K T f c. binaryW K T f at c s detail pre) r) ⌝ }
 {
     let r = expr(io, nodes, at, made, ask);
-    let Step::Got(_, _, d) = r else {
+    let Step::Got(said, _, d) = r else {
         return r;
     };
     let m = emit(nodes, d.made, 39, detail, 2, d.made - base + 1);
-    got(d.at, m, 0)
+    got(d.at, m, said)
 }
 
 fn collate(io: &[&[u32]; 3], nodes: &mut [u32], at: u32, made: u32, base: u32) -> Step
@@ -515,7 +528,7 @@ fn collate(io: &[&[u32]; 3], nodes: &mut [u32], at: u32, made: u32, base: u32) -
         return r;
     };
     let m = emit(nodes, d.made, 44, 0, 2, d.made - base + 1);
-    got(d.at, m, 0)
+    got(d.at, m, 12)
 }
 
 fn range(
@@ -535,11 +548,11 @@ fn range(
         return low;
     };
     let high = after(io, nodes, c.at, c.made, AND, ask);
-    let Step::Got(_, _, e) = high else {
+    let Step::Got(said, _, e) = high else {
         return high;
     };
     let m = emit(nodes, e.made, 43, not, 3, e.made - base + 1);
-    got(e.at, m, 0)
+    got(e.at, m, said)
 }
 
 // A word, and an expression.
@@ -613,7 +626,7 @@ fn ended(
         return wrong(kind, at);
     }
     let m = emit(nodes, made, code, not, 2, made - base + 1);
-    got(at + 1, m, 0)
+    got(at + 1, m, 12)
 }
 
 // { expression , }: says how many.
@@ -646,15 +659,17 @@ fn sign(io: &[&[u32]; 3], nodes: &mut [u32], at: u32, made: u32, kind: u32, ask:
     ensures { λ r. ⌜ Within 1 0 (now (io .entry)) at made r × ((s : ℕ) → Does s ask made (now (nodes .entry)) (now (nodes .exit)) (now (io .entry)) (λ K T f c. signW K T f at c s) r) ⌝ }
 {
     let p = kinds::prefix(kind);
-    if asked(ask) > p {
-        return wrong(kind, at);
+    if kind == NOT {
+        if asked(ask) > NOT_STANDS {
+            return wrong(kind, at);
+        }
     }
     let r = expr(io, nodes, at + 1, made, deeper(ask, p));
-    let Step::Got(_, _, d) = r else {
+    let Step::Got(said, _, d) = r else {
         return r;
     };
     let m = emit(nodes, d.made, 38, kind, 1, d.made - made + 1);
-    got(d.at, m, p as u8)
+    got(d.at, m, least(p, said as u32) as u8)
 }
 
 // A call, or up to three names; in a column, name DOT STAR.

@@ -1,7 +1,7 @@
 -- The walk of an expression ends. Assumes nothing.
 use mathlib.Core.List.{List, [], _++_}
 use mathlib.Core.Path.{_≡_, refl, ap, _∙_}
-use Prim.Native.Nat.{ℕ, _+_, _<_, suc}
+use Prim.Native.Nat.{ℕ, _+_, _<_, min, suc}
 use borrow.Author.Tests.{ltb-true, eqb-false}
 use lib.Dec.{ltb, eqb, leb}
 use lib.ListN.{length}
@@ -60,8 +60,8 @@ module _ (K T : List ℕ) (f : ℕ) (all : Ending K T f) where
 
   pub prefix-ends : (at : ℕ) (c : Around) (s : ℕ) → at < length K → Enough K (suc f) at 0 → Ends at (signW K T (suc f) at c s)
   unfolding exprW
-  prefix-ends at c s i h = ends-choose (ltb (prefixOf (κ K T at)) s) _ _ (λ z. ends-stop)
-      (λ z. ends-bind (exprW K T f (at + 1) (deeper c) (prefixOf (κ K T at))) _ (all .expr (at + 1) (deeper c) (prefixOf (κ K T at)) (omega (arith, h, i))) (λ a x n rs g. ends-done a (prefixOf (κ K T at)) 0 _ (omega (arith, g))))
+  prefix-ends at c s i h = ends-choose (both (eqb (κ K T at) NOT) (ltb 10 s)) _ _ (λ z. ends-stop)
+      (λ z. ends-bind (exprW K T f (at + 1) (deeper c) (prefixOf (κ K T at))) _ (all .expr (at + 1) (deeper c) (prefixOf (κ K T at)) (omega (arith, h, i))) (λ a x n rs g. ends-done a (min (prefixOf (κ K T at)) x) 0 _ (omega (arith, g))))
 
   -- ── operators ──
   pub after-ends : (at word : ℕ) (c : Around) (s : ℕ) → 0 < word → Enough K (suc f) at 0 → Ends (at + 1) (afterW K T (suc f) at word c s)
@@ -70,12 +70,12 @@ module _ (K T : List ℕ) (f : ℕ) (all : Ending K T f) where
 
   pub binary-ends : (at : ℕ) (c : Around) (s d pre : ℕ) → Enough K (suc f) at 3 → Ends at (binaryW K T (suc f) at c s d pre)
   unfolding exprW
-  binary-ends at c s d pre h = ends-bind (exprW K T f at c s) _ (all .expr at c s (omega (arith, h))) (λ a x n rs g. ends-done a 0 0 _ g)
+  binary-ends at c s d pre h = ends-bind (exprW K T f at c s) _ (all .expr at c s (omega (arith, h))) (λ a x n rs g. ends-done a x 0 _ g)
 
   pub between-ends : (at : ℕ) (c : Around) (s not pre : ℕ) → Enough K (suc f) at 3 → Ends at (rangeW K T (suc f) at c s not pre)
   unfolding exprW
   between-ends at c s not pre h = ends-bind (exprW K T f at c s) _ (all .expr at c s (omega (arith, h)))
-      (λ a x n rs g. ends-bind (afterW K T f a AND c s) _ (all .after a AND c s (omega arith) (omega (arith, h, g))) (λ b x m qs i. ends-done b 0 0 _ (omega (arith, g, i))))
+      (λ a x n rs g. ends-bind (afterW K T f a AND c s) _ (all .after a AND c s (omega arith) (omega (arith, h, g))) (λ b y m qs i. ends-done b y 0 _ (omega (arith, g, i))))
 
   pub inside-ends : (at : ℕ) (c : Around) (not pre : ℕ) → Enough K (suc f) at 0 → Ends at (amongW K T (suc f) at c not pre)
   unfolding exprW
@@ -96,7 +96,7 @@ module _ (K T : List ℕ) (f : ℕ) (all : Ending K T f) where
       (λ y. let i = token-at K at BETWEEN (omega arith) y in ends-from _ (omega arith) (all .between (at + 1) c s 1 pre (omega (arith, h, i))))
       (λ y. ends-choose (eqb (κ K T at) LIKE-KW) _ _
       (λ x. let i = token-at K at LIKE-KW (omega arith) x in ends-from _ (omega arith) (all .binary (at + 1) c s (300 + τ K T at) pre (omega (arith, h, i))))
-      (λ x. ends-choose (eqb (κ K T at) NULL) _ _ (λ w. ends-done (at + 1) 4 0 _ (omega arith)) (λ w. ends-stop))))
+      (λ x. ends-choose (eqb (κ K T at) NULL) _ _ (λ w. ends-done (at + 1) 12 0 _ (omega arith)) (λ w. ends-stop))))
 
   pub op-ends : (at : ℕ) (c : Around) (s pre : ℕ) → at < length K → Enough K (suc f) at 0 → Ends (at + 1) (opW K T (suc f) at c s pre)
   unfolding exprW
@@ -107,7 +107,7 @@ module _ (K T : List ℕ) (f : ℕ) (all : Ending K T f) where
       (λ z. ends-choose (eqb (κ K T at) LIKE-KW) _ _ (λ z. all .binary (at + 1) c s (200 + τ K T at) pre (omega (arith, h, i)))
       (λ z. ends-choose (eqb (κ K T at) IS) _ _
       (λ z. ends-choose (eqb (κ K T (at + 1)) NOT) _ _ (λ y. ends-from (binaryW K T f (at + 2) c s 137 pre) (omega arith) (all .binary (at + 2) c s 137 pre (omega (arith, h, i)))) (λ y. all .binary (at + 1) c s 37 pre (omega (arith, h, i))))
-      (λ z. ends-choose (eqb (κ K T at) COLLATE) _ _ (λ z. collate-ends K T (at + 1) pre) (λ z. ends-done (at + 1) 4 0 _ (omega arith))))))))
+      (λ z. ends-choose (eqb (κ K T at) COLLATE) _ _ (λ z. collate-ends K T (at + 1) pre) (λ z. ends-done (at + 1) 12 0 _ (omega arith))))))))
 
   pub ops-end : (at : ℕ) (c : Around) (s left pre : ℕ) → Enough K (suc f) at 1 → Ends at (opsW K T (suc f) at c s left pre)
   unfolding exprW
@@ -116,7 +116,7 @@ module _ (K T : List ℕ) (f : ℕ) (all : Ending K T f) where
       (λ b. ends-choose (ltb left (strengthOf (κ K T at))) _ _ (λ z. here)
       (λ d. let i : at < length K = some-kind K at (λ z. eqb-false (strengthOf (κ K T at)) 0 a (ap strengthOf z ∙ no-strength)) in
       ends-bind (opW K T f at (deeper c) (strengthOf (κ K T at) + 1) pre) _ (all .op at (deeper c) (strengthOf (κ K T at) + 1) pre i (omega (arith, h)))
-      (λ e x n rs g. ends-onto rs _ (ends-from (opsW K T f e c s (strengthOf (κ K T at)) (pre + length rs)) (omega (arith, g)) (all .ops e c s (strengthOf (κ K T at)) (pre + length rs) (omega (arith, h, g, i))))))))
+      (λ e x n rs g. ends-onto rs _ (ends-from (opsW K T f e c s (min (strengthOf (κ K T at)) x) (pre + length rs)) (omega (arith, g)) (all .ops e c s (min (strengthOf (κ K T at)) x) (pre + length rs) (omega (arith, h, g, i))))))))
     where
       here : Ends at (done at left 0 [])
       here = ends-done at left 0 [] (omega arith)

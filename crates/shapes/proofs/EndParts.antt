@@ -40,7 +40,7 @@ module _ (K T : List ℕ) where
 
   pub too-deep-ends : (at s : ℕ) → Ends at (tooDeepW K T at s)
   unfolding tooDeepW
-  too-deep-ends at s = ends-choose (beginsExpr (κ K T at)) _ _ (λ z. ends-choose (both (eqb (κ K T at) NOT) (ltb 3 s)) _ _ (λ y. ends-stop) (λ y. ends-stop)) (λ z. ends-stop)
+  too-deep-ends at s = ends-choose (beginsExpr (κ K T at)) _ _ (λ z. ends-choose (both (eqb (κ K T at) NOT) (ltb 10 s)) _ _ (λ y. ends-stop) (λ y. ends-stop)) (λ z. ends-stop)
 
   dots-ends : (at : ℕ) → Ends at (dotsW K T at)
   unfolding dotsW
@@ -61,11 +61,11 @@ module _ (K T : List ℕ) where
 
   pub collate-ends : (at pre : ℕ) → Ends at (collateW K T at pre)
   unfolding collateW
-  collate-ends at pre = ends-bind (nameW K T at) _ (name-ends at) (λ a s n rs h. ends-done a 0 0 _ h)
+  collate-ends at pre = ends-bind (nameW K T at) _ (name-ends at) (λ a s n rs h. ends-done a 12 0 _ h)
 
   pub ended-ends : (at code not pre : ℕ) (rs : List Rec) → Ends at (endedW K T at code not pre rs)
   unfolding endedW
-  ended-ends at code not pre rs = ends-choose (eqb (κ K T at) RP) _ _ (λ z. ends-done (at + 1) 0 0 _ (omega arith)) (λ z. ends-stop)
+  ended-ends at code not pre rs = ends-choose (eqb (κ K T at) RP) _ _ (λ z. ends-done (at + 1) 12 0 _ (omega arith)) (λ z. ends-stop)
 
   -- ── sources ──
   pub alias-ends : (at : ℕ) → Ends at (aliasW K T at)

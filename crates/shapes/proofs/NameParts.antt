@@ -75,9 +75,9 @@ module _ (K T : List ℕ) (bound : (n : ℕ) → getD K n 0 < 72) where
         regroup = ap (λ z. ls ++ z) (sym (append-assoc rs (list ∷ []) _)) ∙ sym (append-assoc ls (rs ++ (list ∷ [])) _)
 
   -- COLLATE name, after the records ls of an operand
-  pub gives-collate : (at pre : ℕ) (ls : List Rec) → One anExpr ls → length ls ≡ pre → Gives (collateW K T at pre) (λ a s n rs. One anExpr (ls ++ rs))
+  pub gives-collate : (at pre : ℕ) (ls : List Rec) → One anExpr ls → length ls ≡ pre → Gives (collateW K T at pre) (λ a s n rs. (0 < s) × One anExpr (ls ++ rs))
   unfolding collateW
-  gives-collate at pre ls l len = gives-bind (nameW K T at) _ (gives-name at) (λ a s n rs r. gives-done a 0 0 _ (read-after ls rs (collate-node refl refl) (l & r .0) len))
+  gives-collate at pre ls l len = gives-bind (nameW K T at) _ (gives-name at) (λ a s n rs r. gives-done a 12 0 _ (omega arith, read-after ls rs (collate-node refl refl) (l & r .0) len))
 
   -- ── USING ──
   pub gives-names : (f at n : ℕ) → Gives (namesW K T f at n) (λ a s m rs. Several (someOf aName) n m rs)

@@ -3,7 +3,7 @@ use mathlib.Core.Bool.{false}
 use mathlib.Core.List.{List, [], _∷_, _++_, append-assoc, append-nil}
 use mathlib.Core.Logic.{inl, inr}
 use mathlib.Core.Path.{_≡_, refl, sym, ap, _∙_, subst}
-use Prim.Native.Nat.{ℕ, _+_, _≤_, _<_, suc}
+use Prim.Native.Nat.{ℕ, _+_, _≤_, _<_, min, suc}
 use borrow.Author.Tests.{ltb-true, ltb-false}
 use lib.Dec.{ltb, eqb, leb}
 use lib.ListN.{length, getD}
@@ -25,7 +25,7 @@ use Rattle.shapes.proofs.KindCodes.{leaf-code, literal-code, null-code}
 use Rattle.shapes.proofs.Loops.{Several, gives-loop, gives-close}
 use Rattle.shapes.proofs.NameParts.{Exprd, one-name, gives-name, gives-dotted, gives-called}
 use Rattle.shapes.proofs.Statements.{GivesMay, GivesExpr, Cases, All}
-use Rattle.shapes.proofs.Operators.{expr-one, from-none, ops-star}
+use Rattle.shapes.proofs.Operators.{expr-one, expr-told, from-none, ops-star}
 
 -- ── WHEN .. THEN .. ──
 last-case : {n : ℕ} {rs qs : List Rec} → One anExpr rs → One anExpr qs → Cases n (n + 2) (rs ++ qs)
@@ -48,7 +48,7 @@ module _ (K T : List ℕ) (bound : (n : ℕ) → getD K n 0 < 72) where
 
   too-deep : (at s : ℕ) {P : ℕ → ℕ → ℕ → List Rec → Type 0} → Gives (tooDeepW K T at s) P
   unfolding tooDeepW
-  too-deep at s = gives-choose (beginsExpr (κ K T at)) _ _ (λ z. gives-choose (both (eqb (κ K T at) NOT) (ltb 3 s)) _ _ (λ y. gives-stop) (λ y. gives-stop)) (λ z. gives-stop)
+  too-deep at s = gives-choose (beginsExpr (κ K T at)) _ _ (λ z. gives-choose (both (eqb (κ K T at) NOT) (ltb 10 s)) _ _ (λ y. gives-stop) (λ y. gives-stop)) (λ z. gives-stop)
 
   module _ (f : ℕ) (all : All K T f) where
     pub expr-gives : (at : ℕ) (c : Around) (s : ℕ) → Gives (exprW K T (suc f) at c s) (λ a said n rs. Exprd s said rs)
@@ -94,9 +94,9 @@ module _ (K T : List ℕ) (bound : (n : ℕ) → getD K n 0 < 72) where
 
     pub prefix-gives : (at : ℕ) (c : Around) (s : ℕ) → 0 < prefixOf (κ K T at) → GivesExpr (signW K T (suc f) at c s)
     unfolding exprW
-    prefix-gives at c s p = gives-choose (ltb (prefixOf (κ K T at)) s) _ _ (λ z. gives-stop)
-        (λ z. gives-bind (exprW K T f (at + 1) (deeper c) (prefixOf (κ K T at))) _ (expr-one (prefixOf (κ K T at)) p (all .expr (at + 1) (deeper c) (prefixOf (κ K T at))))
-        (λ a x n rs r. gives-done a (prefixOf (κ K T at)) 0 _ (p, read-over (prefix-node refl p) r)))
+    prefix-gives at c s p = gives-choose (both (eqb (κ K T at) NOT) (ltb 10 s)) _ _ (λ z. gives-stop)
+        (λ z. gives-bind (exprW K T f (at + 1) (deeper c) (prefixOf (κ K T at))) _ (expr-told (prefixOf (κ K T at)) p (all .expr (at + 1) (deeper c) (prefixOf (κ K T at))))
+        (λ a x n rs r. gives-done a (min (prefixOf (κ K T at)) x) 0 _ (omega (arith, p, r .0), read-over (prefix-node refl p) (r .1))))
 
     pub list-gives : (at : ℕ) (c : Around) (n : ℕ) → Gives (listW K T (suc f) at c n) (λ a s m rs. Several (someOf anExpr) n m rs)
     unfolding exprW
@@ -135,8 +135,8 @@ module _ (K T : List ℕ) (bound : (n : ℕ) → getD K n 0 < 72) where
     cases-gives at c n = gives-bind (afterW K T f at WHEN c 1) _ (all .after at WHEN c 1 (omega arith))
         (λ a x m rs r. gives-bind (afterW K T f a THEN c 1) _ (all .after a THEN c 1 (omega arith))
         (λ b x m qs q. gives-choose (eqb (κ K T b) WHEN) _ _
-        (λ z. gives-onto (rs ++ qs) (whenW K T f b c (n + 2)) (all .cases b c (n + 2)) (λ d x i us w. one-case r q w))
-        (λ z. gives-done b 0 (n + 2) _ (last-case r q))))
+        (λ z. gives-onto (rs ++ qs) (whenW K T f b c (n + 2)) (all .cases b c (n + 2)) (λ d x i us w. one-case (r .1) (q .1) w))
+        (λ z. gives-done b 0 (n + 2) _ (last-case (r .1) (q .1)))))
 
     pub case-gives : (at : ℕ) (c : Around) → GivesExpr (caseW K T (suc f) at c)
     unfolding exprW
@@ -151,5 +151,5 @@ module _ (K T : List ℕ) (bound : (n : ℕ) → getD K n 0 < 72) where
     unfolding exprW
     cast-gives at c = gives-bind (afterW K T f at LP c 1) _ (all .after at LP c 1 (omega arith))
         (λ a x n rs r. gives-choose (eqb (κ K T a) AS) _ _
-        (λ z. gives-bind (nameW K T (a + 1)) _ (gives-name K T bound (a + 1)) (λ b x n qs q. closed b 37 (rs ++ qs) (cast-node refl refl) (r & q .0)))
+        (λ z. gives-bind (nameW K T (a + 1)) _ (gives-name K T bound (a + 1)) (λ b x n qs q. closed b 37 (rs ++ qs) (cast-node refl refl) (r .1 & q .0)))
         (λ z. gives-stop))

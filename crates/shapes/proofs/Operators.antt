@@ -3,7 +3,7 @@ use mathlib.Core.Bool.{true}
 use mathlib.Core.List.{List, [], _∷_, _++_, append-assoc, append-nil}
 use mathlib.Core.Logic.{inl, inr}
 use mathlib.Core.Path.{_≡_, refl, sym}
-use Prim.Native.Nat.{ℕ, _+_, _≤_, _<_, zero, suc}
+use Prim.Native.Nat.{ℕ, _+_, _≤_, _<_, min, zero, suc}
 use borrow.Author.Tests.{lt-ltb, ltb-false, eqb-false}
 use lib.Dec.{ltb, eqb, leb}
 use lib.ListN.{length, getD, length-append}
@@ -21,7 +21,7 @@ use Rattle.shapes.proofs.Gives.{Gives, gives-bind, gives-onto, gives-ch
 use Rattle.shapes.proofs.KindCodes.{binary-kind, null-test}
 use Rattle.shapes.proofs.Loops.{Several}
 use Rattle.shapes.proofs.NameParts.{Exprd, gives-collate}
-use Rattle.shapes.proofs.Statements.{Extends, GivesOne, All}
+use Rattle.shapes.proofs.Statements.{Extends, GivesOne, GivesExpr, All}
 
 -- asked at a strength, an expression is one
 pub expr-one : {w : Walked} (s : ℕ) → 1 ≤ s → Gives w (λ a said n rs. Exprd s said rs) → GivesOne anExpr w
@@ -29,6 +29,13 @@ expr-one {w} s h g = gives-map w g (λ a said n rs r. one said rs r)
   where
     one : (said : ℕ) (rs : List Rec) → Exprd s said rs → One anExpr rs
     one said rs (inl r) = r .1
+    one said rs (inr r) = absurd (omega (arith, h, r .1))
+
+pub expr-told : {w : Walked} (s : ℕ) → 1 ≤ s → Gives w (λ a said n rs. Exprd s said rs) → GivesExpr w
+expr-told {w} s h g = gives-map w g (λ a said n rs r. one said rs r)
+  where
+    one : (said : ℕ) (rs : List Rec) → Exprd s said rs → (0 < said) × One anExpr rs
+    one said rs (inl r) = r
     one said rs (inr r) = absurd (omega (arith, h, r .1))
 
 -- a count that has none before it
@@ -43,23 +50,23 @@ module _ (K T : List ℕ) (bound : (n : ℕ) → getD K n 0 < 72) where
   -- RP of IN, after what stands in its parentheses
   ended-in : {X : Class} (at code not pre : ℕ) (rs : List Rec) → Node anExpr code not (anExpr ▸ X ▸ fin) → One X rs → Extends pre (endedW K T at code not pre rs)
   unfolding endedW
-  ended-in at code not pre rs N r ls l len = gives-choose (eqb (κ K T at) RP) _ _ (λ z. gives-done (at + 1) 0 0 _ (read-after ls rs N (l & r) len)) (λ z. gives-stop)
+  ended-in at code not pre rs N r ls l len = gives-choose (eqb (κ K T at) RP) _ _ (λ z. gives-done (at + 1) 12 0 _ (omega arith, read-after ls rs N (l & r) len)) (λ z. gives-stop)
 
   module _ (f : ℕ) (all : All K T f) where
-    pub after-gives : (at word : ℕ) (c : Around) (s : ℕ) → 1 ≤ s → GivesOne anExpr (afterW K T (suc f) at word c s)
+    pub after-gives : (at word : ℕ) (c : Around) (s : ℕ) → 1 ≤ s → GivesExpr (afterW K T (suc f) at word c s)
     unfolding exprW
-    after-gives at word c s h = gives-choose (eqb (κ K T at) word) _ _ (λ z. expr-one s h (all .expr (at + 1) c s)) (λ z. gives-stop)
+    after-gives at word c s h = gives-choose (eqb (κ K T at) word) _ _ (λ z. expr-told s h (all .expr (at + 1) c s)) (λ z. gives-stop)
 
     pub binary-gives : (at : ℕ) (c : Around) (s d pre : ℕ) → 1 ≤ s → Operator d → Extends pre (binaryW K T (suc f) at c s d pre)
     unfolding exprW
-    binary-gives at c s d pre h o ls l len = gives-bind (exprW K T f at c s) _ (expr-one s h (all .expr at c s))
-        (λ a x n rs r. gives-done a 0 0 _ (read-after ls rs (binary-node refl o) (l & r) len))
+    binary-gives at c s d pre h o ls l len = gives-bind (exprW K T f at c s) _ (expr-told s h (all .expr at c s))
+        (λ a x n rs r. gives-done a x 0 _ (r .0, read-after ls rs (binary-node refl o) (l & r .1) len))
 
     pub between-gives : (at : ℕ) (c : Around) (s not pre : ℕ) → 1 ≤ s → not ≤ 1 → Extends pre (rangeW K T (suc f) at c s not pre)
     unfolding exprW
     between-gives at c s not pre h b ls l len = gives-bind (exprW K T f at c s) _ (expr-one s h (all .expr at c s))
         (λ a x n rs r. gives-bind (afterW K T f a AND c s) _ (all .after a AND c s h)
-        (λ d x n qs q. gives-done d 0 0 _ (read-after ls (rs ++ qs) (between-node refl b) (l & r & q) len)))
+        (λ d y n qs q. gives-done d y 0 _ (q .0, read-after ls (rs ++ qs) (between-node refl b) (l & r & q .1) len)))
 
     pub inside-gives : (at : ℕ) (c : Around) (not pre : ℕ) → not ≤ 1 → Extends pre (amongW K T (suc f) at c not pre)
     unfolding exprW
@@ -77,7 +84,7 @@ module _ (K T : List ℕ) (bound : (n : ℕ) → getD K n 0 < 72) where
     negated-gives at c s pre h ls l len = gives-choose (eqb (κ K T at) IN) _ _ (λ z. all .inside (at + 1) c 1 pre (omega arith) ls l len)
         (λ z. gives-choose (eqb (κ K T at) BETWEEN) _ _ (λ y. all .between (at + 1) c s 1 pre h (omega arith) ls l len)
         (λ y. gives-choose (eqb (κ K T at) LIKE-KW) _ _ (λ x. all .binary (at + 1) c s (300 + τ K T at) pre h (not-like-op (τ K T at) refl) ls l len)
-        (λ x. gives-choose (eqb (κ K T at) NULL) _ _ (λ w. gives-done (at + 1) 4 0 _ (tested ls NOTNULL pre (not-null refl) l len)) (λ w. gives-stop))))
+        (λ x. gives-choose (eqb (κ K T at) NULL) _ _ (λ w. gives-done (at + 1) 12 0 _ (omega arith, tested ls NOTNULL pre (not-null refl) l len)) (λ w. gives-stop))))
 
     pub op-gives : (at : ℕ) (c : Around) (s pre : ℕ) → 1 ≤ s → 0 < strengthOf (κ K T at) → Extends pre (opW K T (suc f) at c s pre)
     unfolding exprW
@@ -90,7 +97,7 @@ module _ (K T : List ℕ) (bound : (n : ℕ) → getD K n 0 < 72) where
         (λ a5. gives-choose (eqb (κ K T at) IS) _ _
         (λ z. gives-choose (eqb (κ K T (at + 1)) NOT) _ _ (λ y. all .binary (at + 2) c s 137 pre h (is-not-op refl) ls l len) (λ y. all .binary (at + 1) c s 37 pre h (is-op refl) ls l len))
         (λ a6. gives-choose (eqb (κ K T at) COLLATE) _ _ (λ z. gives-collate K T bound (at + 1) pre ls l len)
-        (λ a7. gives-done (at + 1) 4 0 _ (tested ls (κ K T at) pre (null-test (κ K T at) (bound at) some a1 a2 a3 a4 a5 a6 a7) l len))))))))
+        (λ a7. gives-done (at + 1) 12 0 _ (omega arith, tested ls (κ K T at) pre (null-test (κ K T at) (bound at) some a1 a2 a3 a4 a5 a6 a7) l len))))))))
       where
         some : ltb 0 (strengthOf (κ K T at)) ≡ true
         some = lt-ltb 0 (strengthOf (κ K T at)) p
@@ -104,7 +111,7 @@ module _ (K T : List ℕ) (bound : (n : ℕ) → getD K n 0 < 72) where
         (λ b. gives-choose (ltb left (strengthOf (κ K T at))) _ _ (λ z. here)
         (λ d. let q : 0 < strengthOf (κ K T at) = not-zero (strengthOf (κ K T at)) (eqb-false (strengthOf (κ K T at)) 0 a) in
         gives-bind (opW K T f at (deeper c) (strengthOf (κ K T at) + 1) pre) _ (all .op at (deeper c) (strengthOf (κ K T at) + 1) pre (omega arith) q ls l len)
-        (λ e x n rs r. gives-onto rs (opsW K T f e c s (strengthOf (κ K T at)) (pre + length rs)) (all .ops e c s (strengthOf (κ K T at)) (pre + length rs) q (ls ++ rs) r (omega (arith, length-append ls rs, len)))
+        (λ e x n rs r. gives-onto rs (opsW K T f e c s (min (strengthOf (κ K T at)) x) (pre + length rs)) (all .ops e c s (min (strengthOf (κ K T at)) x) (pre + length rs) (omega (arith, q, r .0)) (ls ++ rs) (r .1) (omega (arith, length-append ls rs, len)))
         (λ g y m qs t. (t .0, read-is (t .1) refl (sym (append-assoc ls rs qs))))))))
       where
         here : Gives (done at left 0 []) (λ a said n rs. (0 < said) × One anExpr (ls ++ rs))

@@ -28,7 +28,7 @@ GivesExpr w = Gives w (λ a said n rs. (0 < said) × One anExpr rs)
 
 -- an operator and what is right of it, which make one expression with the operand before them
 abbrev pub Extends : ℕ → Walked → Type 0
-Extends pre w = (ls : List Rec) → One anExpr ls → length ls ≡ pre → Gives w (λ a s n rs. One anExpr (ls ++ rs))
+Extends pre w = (ls : List Rec) → One anExpr ls → length ls ≡ pre → Gives w (λ a s n rs. (0 < s) × One anExpr (ls ++ rs))
 
 -- each WHEN with its THEN, n before them: then whatever stands for ELSE
 pub record Cases (n m : ℕ) (rs : List Rec) : Type 0 where
@@ -48,7 +48,7 @@ module _ (K T : List ℕ) where
     pub negated : (at : ℕ) (c : Around) (s pre : ℕ) → 1 ≤ s → Extends pre (negatedW K T f at c s pre)
     pub binary : (at : ℕ) (c : Around) (s d pre : ℕ) → 1 ≤ s → Operator d → Extends pre (binaryW K T f at c s d pre)
     pub between : (at : ℕ) (c : Around) (s not pre : ℕ) → 1 ≤ s → not ≤ 1 → Extends pre (rangeW K T f at c s not pre)
-    pub after : (at word : ℕ) (c : Around) (s : ℕ) → 1 ≤ s → GivesOne anExpr (afterW K T f at word c s)
+    pub after : (at word : ℕ) (c : Around) (s : ℕ) → 1 ≤ s → GivesExpr (afterW K T f at word c s)
     pub inside : (at : ℕ) (c : Around) (not pre : ℕ) → not ≤ 1 → Extends pre (amongW K T f at c not pre)
     pub list : (at : ℕ) (c : Around) (n : ℕ) → Gives (listW K T f at c n) (λ a s m rs. Several (someOf anExpr) n m rs)
     pub prefix : (at : ℕ) (c : Around) (s : ℕ) → 0 < prefixOf (κ K T at) → GivesExpr (signW K T f at c s)

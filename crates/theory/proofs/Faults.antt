@@ -108,7 +108,7 @@ module _ (Ctx : Type 0) (under : Row → Tree → Tok → Tree → Ctx → Ctx) 
       length-faults r [] = refl
       length-faults r (u ∷ us) = ap suc (length-faults (next G S r u) us)
 
-      module _ (Follow : Nt → ℕ → Type 0) (laws : Laws G Follow S) where
+      module _ (Follow : Nt → ℕ → ℕ → Type 0) (laws : Laws G Follow S) where
         pub faults-read : {q : Row} {x : Tree} → Ok G S q x → faults G Ctx under judge c S idle (toks x) ≡ faultsOf Ctx under judge c x
         unfolding faults said top faultsOf
         faults-read {x = x} o =

@@ -1,12 +1,12 @@
--- What a grammar must keep for the machine to be right: LL(1), said once. follows: after a part there may come only what Follow
--- allows; stops, leaves: what follows goes on from nothing before it and begins no absent part; least: every part has a shortest
--- form. Definitions, and what a row and a suffix are. Assumes nothing.
+-- What a grammar must keep for the machine to be right: LL(1), said once. Follow A c k: a kind k may come after what stands for A and
+-- leaves c. follows: after a part there may come only what Follow allows; stops, leaves: what follows goes on from nothing before it and
+-- begins no absent part; least: every part has a shortest form. Definitions, and what a row and a suffix are. Assumes nothing.
 use mathlib.Core.Bool.{true}
 use mathlib.Core.List.{List, [], _∷_}
 use mathlib.Core.Logic.{_⊎_}
 use mathlib.Core.Option.{some, none}
 use mathlib.Core.Path.{_≡_}
-use Prim.Native.Nat.{ℕ}
+use Prim.Native.Nat.{ℕ, min}
 use Rattle.theory.specs.Trees.{Tok, Nt, Item, lit, nt, Row, Tree, Gram}
 use Rattle.theory.specs.Derives.{Opens, head, tail, Part, begin, token, absent, child}
 
@@ -19,11 +19,11 @@ module _ (G : Gram) where
   row-of (head e) = enters e
   row-of (tail o p e) = continues e
 
-  -- the kinds that `is`, and after it what K allows, begin with
-  abbrev pub Firsts : List Item → (ℕ → Type 0) → ℕ → Type 0
-  Firsts [] K k = K k
-  Firsts (lit c ∷ is) K k = c ≡ k
-  Firsts (nt B ∷ is) K k = ((r : Row) × (G .enter B k ≡ some r)) ⊎ ((G .nullable B ≡ true) × Firsts is K k)
+  -- the kinds that `is`, and after it what K allows, begin with, where the part before `is` leaves c; an absent part leaves all
+  abbrev pub Firsts : List Item → ℕ → (ℕ → ℕ → Type 0) → ℕ → Type 0
+  Firsts [] c K k = K c k
+  Firsts (lit d ∷ is) c K k = d ≡ k
+  Firsts (nt B ∷ is) c K k = ((r : Row) × (G .enter B k ≡ some r)) ⊎ ((G .nullable B ≡ true) × Firsts is 99 K k)
 
   pub data Suffix : List Item → List Item → Type 0 where
     all : {is : List Item} → Suffix is is
@@ -37,17 +37,18 @@ module _ (G : Gram) where
   abbrev pub Least : Nt → Type 0
   Least B = (G .nullable B ≡ true) ⊎ ((q : Row) × (l : Tree) × (s : Tok) × (g : Tree) × Opens G B l s q × Part G (q .items) [] g)
 
-  module _ (Follow : Nt → ℕ → Type 0) where
-    abbrev pub After : Nt → Row → ℕ → Type 0
-    After A r k = ((c : ℕ) × (q : Row) × (G .cont A r c k ≡ some q)) ⊎ Follow A k
+  module _ (Follow : Nt → ℕ → ℕ → Type 0) where
+    -- after a row of A whose children leave c
+    abbrev pub After : Nt → Row → ℕ → ℕ → Type 0
+    After A r c k = ((q : Row) × (G .cont A r c k ≡ some q)) ⊎ Follow A (min (r .cap) c) k
 
     pub record Laws (S : Nt) : Type 0 where
-      pub ends : Follow (S) (G .eof)
+      pub ends : (c : ℕ) → Follow (S) c (G .eof)
       pub any : (q : Row) × (l : Tree) × (s : Tok) × (g : Tree) × Opens G (S) l s q × Part G (q .items) [] g
-      pub stops : (A : Nt) (c k : ℕ) (r : Row) → Follow A k → G .cont A r c k ≡ none
-      pub leaves : (B : Nt) (k : ℕ) → G .nullable B ≡ true → Follow B k → G .enter B k ≡ none
-      pub follows : (A : Nt) (r : Row) → RowOf A r → (B : Nt) (is : List Item) (k : ℕ)
-          → Suffix (nt B ∷ is) (r .items) → Firsts is (After A r) k → Follow B k
+      pub stops : (A : Nt) (c k : ℕ) (r : Row) → Follow A (min (r .cap) c) k → G .cont A r c k ≡ none
+      pub leaves : (B : Nt) (k : ℕ) → G .nullable B ≡ true → Follow B 99 k → G .enter B k ≡ none
+      pub follows : (A : Nt) (r : Row) → RowOf A r → (B : Nt) (is : List Item) (c k : ℕ)
+          → Suffix (nt B ∷ is) (r .items) → Firsts is c (After A r) k → Follow B c k
       pub least : (A : Nt) (r : Row) → RowOf A r → (B : Nt) (is : List Item) → Suffix (nt B ∷ is) (r .items) → Least B
 
   pub part-suffix : {full rest : List Item} {f : Tree} → Part G full rest f → Suffix rest full

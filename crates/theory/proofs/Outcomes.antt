@@ -33,7 +33,7 @@ same-front (z ∷ a) b (w ∷ c) d e h =
     let r : a ≡ c = same-front a b c d t (omega arith) in cc
 
 module _ (Ctx : Type 0) (under : Row → Tree → Tok → Tree → Ctx → Ctx) (judge : Ctx → Row → Tree → Tok → Tree → ℕ) (G : Gram) (c : Ctx) (S : Nt) where
-  module _ (Follow : Nt → ℕ → Type 0) (laws : Laws G Follow S) where
+  module _ (Follow : Nt → ℕ → ℕ → Type 0) (laws : Laws G Follow S) where
     abbrev Words : List Tok → List ℕ
     Words us = faults G Ctx under judge c S idle us
 

@@ -29,7 +29,7 @@ module _ (G : Gram) (S : Nt) where
         (z .0, toks (node (m .0) (m .1) (m .2) (m .3)) ++ z .1, z .2, z .3 ∙ append-assoc (toks f) (toks (node (m .0) (m .1) (m .2) (m .3))) (z .1))
   ]
 
-  module _ (Follow : Nt → ℕ → Type 0) (laws : Laws G Follow S) where
+  module _ (Follow : Nt → ℕ → ℕ → Type 0) (laws : Laws G Follow S) where
     fill-up : (fs : List Frame) (A : Nt) (pk l : Tree) (t : Tok) (r : Row) (k : Tree)
         → Up G S fs A pk → Opens G A l t r → Part G (r .items) [] k → Begins G S (before fs ++ (toks pk ++ toks (node r l t k)))
     unfolding before toks

@@ -182,7 +182,7 @@ module _ (G : Gram) (S : Nt) where
   abbrev pub parse : List Tok → Out
   parse ts = scan G S 0 idle ts
 
-module _ (G : Gram) (S : Nt) (Follow : Nt → ℕ → Type 0) (laws : Laws G Follow S) where
+module _ (G : Gram) (S : Nt) (Follow : Nt → ℕ → ℕ → Type 0) (laws : Laws G Follow S) where
   pub read-derived : (ts : List Tok) (k : Tree) → parse G S ts ≡ tree k → (x : Tree) × (k ≡ add nil x) × Derives G S ts x
   read-derived ts k e =
       let s : run G S idle (ts ++ (End G ∷ [])) ≡ done k = rw e at (scan-says G S 0 idle ts tt) in

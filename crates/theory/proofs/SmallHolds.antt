@@ -15,7 +15,7 @@ use Rattle.theory.specs.Outcome.{Ans, refused, Outcome}
 use Rattle.theory.specs.Small.{expr, any, row, commaRow, rowsRow, exprs, heads, tails, follows, tok, small, Cx, count, firstRow, under, begun, judge, start}
 use Rattle.theory.proofs.Machine.{onBool, onFed, feed, step, next, run}
 use Rattle.theory.proofs.Laws.{Laws}
-use Rattle.theory.proofs.Tested.{notb, allb, kindsOf, isNone, culprits, hiding, followB, FollowOf, firstsL, afterL, itemsOK, isDone, leastOK, leavesOK, Tight, Checked, laws}
+use Rattle.theory.proofs.Tested.{notb, allb, kindsOf, listed, isNone, culprits, hiding, looseB, followB, FollowOf, afterB, firstsB, itemsOK, isDone, leastOK, leavesOK, Tight, Checked, laws}
 use Rattle.theory.proofs.Fits.{fits}
 use Rattle.theory.proofs.Right.{tree, onEnd, onNext, scan, parse, unambiguous}
 use Rattle.theory.proofs.Descend.{check, sum, fault}
@@ -29,12 +29,12 @@ unfolding heads tails exprs pick both allb mem lookup isNone hiding
 none-hidden = refl
 
 no-culprits : culprits (λ l. allb (λ C. itemsOK small C (l .row) (l .row .items)) (l .of)) (heads ++ tails) ≡ []
-unfolding small heads tails exprs follows pick both allb mem lookup kindsOf nullOf followB firstsL afterL itemsOK culprits onBool onRow
+unfolding small heads tails exprs follows pick both allb mem lookup kindsOf nullOf listed looseB followB afterB firstsB itemsOK culprits onBool onRow
 no-culprits = refl
 
 pub small-checked : Checked small (any 20)
-unfolding small heads tails exprs follows pick both notb allb mem lookup asked kindsOf enterOf contOf capOf nullOf followB firstsL afterL itemsOK isDone leastOK leavesOK onBool onRow onFed feed step next run
-small-checked = record { ends = refl; any = refl; stops = refl; leaves = refl; follows-h = refl; follows-t = refl; least-h = refl; least-t = refl }
+unfolding small heads tails exprs follows pick both notb allb mem lookup asked kindsOf enterOf contOf capOf nullOf listed looseB followB afterB firstsB itemsOK isDone leastOK leavesOK onBool onRow onFed feed step next run
+small-checked = record { ends = refl; any = refl; leaves = refl; follows-h = refl; follows-t = refl; least-h = refl; least-t = refl }
 
 pub small-tight : Tight small
 unfolding small tails exprs pick both allb
@@ -82,10 +82,26 @@ ex-rows : answer (tok 70 ∷ tok 12 ∷ tok 1 ∷ tok 13 ∷ tok 14 ∷ tok 12 �
 unfolding small heads tails exprs pick both mem lookup asked enterOf contOf nullOf capOf onBool onRow onFed feed step next scanA onNextA onEndA check sum fault faultOf under judge begun count firstRow
 ex-rows = refl
 
--- a = NOT b: refused with 3 at NOT
-ex-not : answer (tok 52 ∷ tok 1 ∷ tok 28 ∷ tok 36 ∷ tok 2 ∷ []) ≡ refused 3 3
+-- - NOT b: refused with 3 at NOT
+ex-not : answer (tok 52 ∷ tok 19 ∷ tok 36 ∷ tok 2 ∷ []) ≡ refused 3 2
 unfolding small heads tails exprs pick both mem lookup asked enterOf contOf nullOf capOf onBool onRow onFed feed step next scanA onNextA onEndA check sum fault faultOf under judge begun count firstRow
 ex-not = refl
+
+-- a + NOT b = c is a + (NOT (b = c)): NOT stands where it is asked for 8, and what ends in it leaves 3, so = goes on in it
+abbrev notRow : Row
+notRow = record { code = 38; str = 9; left = 9; cap = 3; items = nt (expr 3) ∷ [] }
+
+abbrev called : ℕ → Tree
+called k = node (row 20 12 []) nil (tok k) nil
+
+right : Tree
+right = node (row 1 0 (nt (expr 1) ∷ nt (any 21) ∷ nt (any 22) ∷ [])) nil (tok 52) (add (add (add nil
+    (node (row 39 7 (nt (expr 8) ∷ [])) (called 1) (tok 18) (add nil (node notRow nil (tok 36) (add nil
+    (node (record { code = 39; str = 4; left = 4; cap = 3; items = nt (expr 5) ∷ [] }) (called 2) (tok 28) (add nil (called 1)))))))) nil) nil)
+
+ex-right : parse (gram small) (any 20) (tok 52 ∷ tok 1 ∷ tok 18 ∷ tok 36 ∷ tok 2 ∷ tok 28 ∷ tok 1 ∷ []) ≡ tree (add nil right)
+unfolding right small heads tails exprs pick both mem lookup asked enterOf contOf nullOf capOf onBool onRow onFed feed step next scan onNext onEnd
+ex-right = refl
 
 -- a = b = c: refused with 3 at the second =, which does not repeat
 ex-twice : answer (tok 52 ∷ tok 1 ∷ tok 28 ∷ tok 1 ∷ tok 28 ∷ tok 1 ∷ []) ≡ refused 3 4

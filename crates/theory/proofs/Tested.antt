@@ -8,10 +8,10 @@ use Prim.Native.Nat.{ℕ, _≤_, _<_, min}
 use lib.Dec.{ltb, eqb, leb, ltb→lt, lt→ltb}
 use native.Mathlib.Omega.{arith}
 use Rattle.theory.specs.Trees.{Tok, Nt, Item, lit, nt, Row, Tree}
-use Rattle.theory.specs.Table.{Line, Table, pick, both, onRow, mem, lookup, asked, enterOf, contOf, nullOf, gram}
+use Rattle.theory.specs.Table.{Line, Come, Table, pick, both, onRow, mem, lookup, asked, enterOf, contOf, nullOf, gram}
 use Rattle.theory.specs.Derives.{Opens, Part, Ok, whole}
 use Rattle.theory.proofs.Machine.{End, Res, idle, go, done, stop, onBool, run}
-use Rattle.theory.proofs.Cases.{onRow-case, pick-case, pick-inv, 0≢1, none≢some, both-l, both-r, both-i, eqb-eq, T-true, eqb-true, leb-le}
+use Rattle.theory.proofs.Cases.{onRow-case, pick-case, pick-inv, 0≢1, none≢some, both-l, both-r, both-i, eqb-eq, T-true, eqb-true, leb-le, le-leb}
 use Rattle.theory.proofs.Laws.{RowOf, enters, continues, Firsts, Suffix, all, more, After, Laws}
 use Rattle.theory.proofs.Sound.{Good, sound-run}
 
@@ -122,13 +122,40 @@ unfoldable pub hiding : List Line → List Line
 hiding [] = []
 hiding (e ∷ es) = pick (Kinds (λ C k r. isNone (lookup C k es)) e) [] (λ w. e ∷ []) ++ hiding es
 
-module _ (t : Table) where
-  -- a kind may follow A: it is listed, or it is a tail that is too loose for what is asked
-  unfoldable pub followB : Nt → ℕ → Bool
-  followB A k = pick (mem k (t .follow (A .of))) true (λ w. onRow (lookup (A .of) k (t .tails)) (λ q. ltb (q .str) (A .least)) (λ w. false))
+-- a kind is among those that may come where c is left
+unfoldable pub listed : ℕ → ℕ → List Come → Bool
+listed c k [] = false
+listed c k (e ∷ es) = pick (both (leb (e .asks) c) (mem k (e .at))) true (λ w. listed c k es)
 
-  abbrev pub FollowOf : Nt → ℕ → Type 0
-  FollowOf A k = followB A k ≡ true
+-- of a kind that is listed: where, with what holds of all that is listed
+listed-found : (p : Come → Bool) (c k : ℕ) (es : List Come) → allb p es ≡ true → listed c k es ≡ true
+    → (e : Come) × (p e ≡ true) × (leb (e .asks) c ≡ true) × (mem k (e .at) ≡ true)
+unfolding listed allb
+listed-found p c k [] a l = 0≢1 l
+listed-found p c k (e ∷ es) a l = pick-inv (both (leb (e .asks) c) (mem k (e .at))) true _ true l
+    (λ h x. (e, both-l (p e) (allb p es) a, both-l (leb (e .asks) c) (mem k (e .at)) h, both-r (leb (e .asks) c) (mem k (e .at)) h))
+    (λ h x. listed-found p c k es (both-r (p e) (allb p es) a) x)
+
+-- what comes where less is left comes where more is
+listed-more : (b c k : ℕ) (es : List Come) → b ≤ c → listed b k es ≡ true → listed c k es ≡ true
+unfolding listed
+listed-more b c k [] h l = l
+listed-more b c k (e ∷ es) h l = pick-inv (both (leb (e .asks) b) (mem k (e .at))) true _ true l
+    (λ g x. let y = leb-le (e .asks) b (both-l _ _ g) in
+    pick-case (λ z. z ≡ true) (both (leb (e .asks) c) (mem k (e .at))) true _ (λ i. refl) (λ i. 0≢1 (sym i ∙ both-i _ _ (le-leb (e .asks) c (omega arith)) (both-r _ _ g))))
+    (λ g x. pick-case (λ z. z ≡ true) (both (leb (e .asks) c) (mem k (e .at))) true _ (λ i. refl) (λ i. listed-more b c k es h x))
+
+module _ (t : Table) where
+  -- a kind is no tail of a class, or one that is looser than s
+  unfoldable pub looseB : ℕ → ℕ → ℕ → Bool
+  looseB C s k = onRow (lookup C k (t .tails)) (λ q. ltb (q .str) s) (λ w. true)
+
+  -- a kind may follow what stands for A and leaves c: it is listed, and no tail that is asked
+  unfoldable pub followB : Nt → ℕ → ℕ → Bool
+  followB A c k = both (looseB (A .of) (A .least) k) (listed c k (t .follow (A .of)))
+
+  abbrev pub FollowOf : Nt → ℕ → ℕ → Type 0
+  FollowOf A c k = followB A c k ≡ true
 
   pub enter-found : (A : Nt) (k : ℕ) (r : Row) → enterOf t A k ≡ some r → (lookup (A .of) k (t .heads) ≡ some r) × (leb (A .least) (r .str) ≡ true)
   unfolding enterOf
@@ -156,57 +183,86 @@ module _ (t : Table) where
   row-least A r (enters {k = k} e) = enter-found A k r e .1
   row-least A r (continues {c = c} {k = k} {q = q} e) = cont-found A q c k r e .1
 
-  unfoldable pub firstsL : List Item → List ℕ → List ℕ
-  firstsL [] K = K
-  firstsL (lit c ∷ is) K = c ∷ []
-  firstsL (nt B ∷ is) K = kindsOf (B .of) (λ r. leb (B .least) (r .str)) (t .heads) ++ onBool (nullOf t B) (λ w. firstsL is K) []
+  -- a tail goes on from a row, whatever strength was asked and its end leaves
+  abbrev pub goesOn : Row → Row → Bool
+  goesOn r q = both (leb (q .left) (r .str)) (leb (q .left) (r .cap))
 
-  -- a tail may come after a row of its class, whatever strength was asked of that: it goes on from it, or is too loose for what was asked
-  abbrev pub comes : Row → Row → Bool
-  comes r q = pick (leb (q .left) (r .str)) true (λ w. ltb (q .str) (r .str))
+  -- a test of each kind that may come after a row of a class, and of what it asks of the end of what stands before it
+  unfoldable pub afterB : (ℕ → ℕ → Bool) → ℕ → Row → Bool
+  afterB p C r = both (allb (λ e. pick (both (mem C (e .of)) (goesOn r (e .row))) (allb (p (e .row .left)) (e .at)) (λ w. true)) (t .tails))
+      (allb (λ e. pick (leb (e .asks) (r .cap)) (allb (λ k. pick (looseB C (r .str) k) (p (e .asks) k) (λ w. true)) (e .at)) (λ w. true)) (t .follow C))
 
-  unfoldable pub afterL : ℕ → Row → List ℕ
-  afterL C r = kindsOf C (comes r) (t .tails) ++ t .follow C
+  -- of each kind that the items begin with, and, where they may all be absent, that may come after the row
+  unfoldable pub firstsB : (ℕ → ℕ → Bool) → ℕ → Row → List Item → Bool
+  firstsB p C r [] = afterB p C r
+  firstsB p C r (lit d ∷ is) = p 0 d
+  firstsB p C r (nt B ∷ is) = both (allb (p 0) (kindsOf (B .of) (λ r. leb (B .least) (r .str)) (t .heads))) (pick (nullOf t B) (firstsB (λ c. p 0) C r is) (λ w. true))
 
-  comes-on : (r q : Row) → leb (q .left) (r .str) ≡ true → comes r q ≡ true
-  unfolding pick
-  comes-on r q e = rw e
+  loose-by : (C s k : ℕ) → ((q : Row) → lookup C k (t .tails) ≡ some q → q .str < s) → looseB C s k ≡ true
+  unfolding looseB
+  loose-by C s k f = onRow-case (λ z. z ≡ true) (lookup C k (t .tails)) _ _ (λ q e. T-true (ltb (q .str) s) (lt→ltb (q .str) s (f q e))) (λ e. refl)
 
-  comes-loose : (r q : Row) → q .str < r .str → comes r q ≡ true
-  comes-loose r q h = pick-case (λ z. z ≡ true) (leb (q .left) (r .str)) true _ (λ g. refl) (λ g. T-true (ltb (q .str) (r .str)) (lt→ltb (q .str) (r .str) h))
+  loose-at : (C s k : ℕ) (q : Row) → looseB C s k ≡ true → lookup C k (t .tails) ≡ some q → q .str < s
+  unfolding looseB onRow
+  loose-at C s k q l e = ltb→lt (q .str) s (rw (rw e at l) tt)
 
-  follow-inv : {Q : Type 0} (A : Nt) (k : ℕ) → followB A k ≡ true → (mem k (t .follow (A .of)) ≡ true → Q)
-      → ((q : Row) → lookup (A .of) k (t .tails) ≡ some q → q .str < A .least → Q) → Q
+  follow-loose : (A : Nt) (c k : ℕ) → followB A c k ≡ true → looseB (A .of) (A .least) k ≡ true
   unfolding followB
-  follow-inv {Q} A k e a b = pick-inv (mem k (t .follow (A .of))) true _ true e (λ h x. a h)
-      (λ h. onRow-case (λ z. z ≡ true → Q) (lookup (A .of) k (t .tails)) _ _ (λ q g y. b q g (ltb→lt (q .str) (A .least) (rw y tt))) (λ g y. 0≢1 y))
+  follow-loose A c k e = both-l (looseB (A .of) (A .least) k) _ e
 
-  firsts-found : (A : Nt) (r : Row) → leb (A .least) (r .str) ≡ true → (is : List Item) (k : ℕ) → Firsts (gram t) is (After (gram t) FollowOf A r) k → mem k (firstsL is (afterL (A .of) r)) ≡ true
-  unfolding firstsL afterL mem pick onBool
-  firsts-found A r s [] k (inl h) = let c = cont-found A r (h .0) k (h .1) (h .2) in
-      mem-append-l k (kindsOf (A .of) (comes r) (t .tails)) (t .follow (A .of)) (kinds-found (A .of) (comes r) k (h .1) (t .tails) (c .0) (comes-on r (h .1) (c .2)))
-  firsts-found A r s [] k (inr h) = follow-inv A k h
-      (λ m. mem-append-r k (kindsOf (A .of) (comes r) (t .tails)) (t .follow (A .of)) m)
-      (λ q e l. mem-append-l k (kindsOf (A .of) (comes r) (t .tails)) (t .follow (A .of)) (kinds-found (A .of) (comes r) k q (t .tails) e
-      (comes-loose r q (let g = leb-le (A .least) (r .str) s in omega arith))))
-  firsts-found A r s (lit c ∷ is) k h = rw (eqb-true k c (sym h)) refl
-  firsts-found A r s (nt B ∷ is) k (inl h) = let e = enter-found B k (h .0) (h .1) in
-      mem-append-l k (kindsOf (B .of) (λ r. leb (B .least) (r .str)) (t .heads)) (onBool (nullOf t B) (λ w. firstsL is (afterL (A .of) r)) [])
-      (kinds-found (B .of) (λ r. leb (B .least) (r .str)) k (h .0) (t .heads) (e .0) (e .1))
-  firsts-found A r s (nt B ∷ is) k (inr h) =
-      mem-append-r k (kindsOf (B .of) (λ r. leb (B .least) (r .str)) (t .heads)) (onBool (nullOf t B) (λ w. firstsL is (afterL (A .of) r)) []) (rw (h .0) (firsts-found A r s is k (h .1)))
+  follow-listed : (A : Nt) (c k : ℕ) → followB A c k ≡ true → listed c k (t .follow (A .of)) ≡ true
+  unfolding followB
+  follow-listed A c k e = both-r (looseB (A .of) (A .least) k) _ e
+
+  follow-more : (A : Nt) (b c k : ℕ) → b ≤ c → followB A b k ≡ true → followB A c k ≡ true
+  unfolding followB
+  follow-more A b c k h e = both-i _ _ (follow-loose A b k e) (listed-more b c k (t .follow (A .of)) h (follow-listed A b k e))
+
+  module _ (A : Nt) (r : Row) (s : leb (A .least) (r .str) ≡ true) (p : ℕ → ℕ → Bool) (up : (b c k : ℕ) → b ≤ c → p b k ≡ true → p c k ≡ true) where
+    -- a test of what comes after a row holds of a tail that goes on, and of what follows
+    after-tail : afterB p (A .of) r ≡ true → (c k : ℕ) (q : Row) → contOf t A r c k ≡ some q → p c k ≡ true
+    unfolding afterB pick
+    after-tail a c k q o =
+        let x = cont-found A r c k q o in
+        let m = leb-le (q .left) (min (r .cap) c) (x .3) in
+        let f = found (λ e. pick (both (mem (A .of) (e .of)) (goesOn r (e .row))) (allb (p (e .row .left)) (e .at)) (λ w. true)) (A .of) k q (t .tails) (both-l _ _ a) (x .0) in
+        let g : both (mem (A .of) (f .0 .of)) (goesOn r (f .0 .row)) ≡ true = both-i _ _ (f .2) (rw (f .4) (both-i _ _ (x .2) (le-leb (q .left) (r .cap) (omega arith)))) in
+        up (q .left) c k (omega arith) (subst (λ z. p (z .left) k ≡ true) (f .4) (all-mem (p (f .0 .row .left)) (f .0 .at) k (rw g at (f .1)) (f .3)))
+
+    after-listed : afterB p (A .of) r ≡ true → (c k : ℕ) → followB A (min (r .cap) c) k ≡ true → p c k ≡ true
+    unfolding afterB pick
+    after-listed a c k h =
+        let f = listed-found (λ e. pick (leb (e .asks) (r .cap)) (allb (λ k. pick (looseB (A .of) (r .str) k) (p (e .asks) k) (λ w. true)) (e .at)) (λ w. true)) (min (r .cap) c) k (t .follow (A .of)) (both-r _ _ a)
+        (follow-listed A (min (r .cap) c) k h) in
+        let m = leb-le (f .0 .asks) (min (r .cap) c) (f .2) in
+        let i = all-mem (λ k. pick (looseB (A .of) (r .str) k) (p (f .0 .asks) k) (λ w. true)) (f .0 .at) k (rw (le-leb (f .0 .asks) (r .cap) (omega arith)) at (f .1)) (f .3) in
+        up (f .0 .asks) c k (omega arith) (rw loose at i)
+      where
+        loose : looseB (A .of) (r .str) k ≡ true
+        loose = loose-by (A .of) (r .str) k (λ q e. let l = loose-at (A .of) (A .least) k q (follow-loose A (min (r .cap) c) k h) e in let g = leb-le (A .least) (r .str) s in omega arith)
+
+  firsts-ok : (A : Nt) (r : Row) → leb (A .least) (r .str) ≡ true → (p : ℕ → ℕ → Bool) → ((b c k : ℕ) → b ≤ c → p b k ≡ true → p c k ≡ true)
+      → (is : List Item) (c k : ℕ) → firstsB p (A .of) r is ≡ true → Firsts (gram t) is c (After (gram t) FollowOf A r) k → p c k ≡ true
+  unfolding firstsB pick
+  firsts-ok A r s p up [] c k a (inl h) = after-tail A r s p up a c k (h .0) (h .1)
+  firsts-ok A r s p up [] c k a (inr h) = after-listed A r s p up a c k h
+  firsts-ok A r s p up (lit d ∷ is) c k a h = up 0 c k (omega arith) (subst (λ z. p 0 z ≡ true) h a)
+  firsts-ok A r s p up (nt B ∷ is) c k a (inl h) = let e = enter-found B k (h .0) (h .1) in
+      up 0 c k (omega arith) (all-mem (p 0) (kindsOf (B .of) (λ r. leb (B .least) (r .str)) (t .heads)) k (both-l _ _ a)
+      (kinds-found (B .of) (λ r. leb (B .least) (r .str)) k (h .0) (t .heads) (e .0) (e .1)))
+  firsts-ok A r s p up (nt B ∷ is) c k a (inr h) = up 0 c k (omega arith) (firsts-ok A r s (λ c. p 0) (λ b c k l e. e) is 99 k (rw (h .0) at (both-r _ _ a)) (h .1))
 
   unfoldable pub itemsOK : ℕ → Row → List Item → Bool
   itemsOK C r [] = true
   itemsOK C r (lit c ∷ is) = itemsOK C r is
-  itemsOK C r (nt B ∷ is) = both (allb (followB B) (firstsL is (afterL C r))) (itemsOK C r is)
+  itemsOK C r (nt B ∷ is) = both (firstsB (followB B) C r is) (itemsOK C r is)
 
   items-ok : (C : ℕ) (r : Row) {B : Nt} {is full : List Item} → Suffix (gram t) (nt B ∷ is) full → itemsOK C r full ≡ true
-      → allb (followB B) (firstsL is (afterL C r)) ≡ true
+      → firstsB (followB B) C r is ≡ true
   unfolding itemsOK
-  items-ok C r {B} {is} all e = both-l (allb (followB B) (firstsL is (afterL C r))) (itemsOK C r is) e
+  items-ok C r {B} {is} all e = both-l (firstsB (followB B) C r is) (itemsOK C r is) e
   items-ok C r (more {i = lit c} s) e = items-ok C r s e
-  items-ok C r (more {i = nt D} {full = full} s) e = items-ok C r s (both-r (allb (followB D) (firstsL full (afterL C r))) (itemsOK C r full) e)
+  items-ok C r (more {i = nt D} {full = full} s) e = items-ok C r s (both-r (firstsB (followB D) C r full) (itemsOK C r full) e)
 
   unfoldable pub isDone : Res → Bool
   isDone idle = false
@@ -248,7 +304,7 @@ module _ (t : Table) where
 
   -- a head of a class that may be absent: its kind does not follow the class
   unfoldable pub leavesOK : ℕ → ℕ → Row → Bool
-  leavesOK C k r = pick (mem C (t .nulls)) (notb (mem k (t .follow C))) (λ w. true)
+  leavesOK C k r = pick (mem C (t .nulls)) (notb (listed 99 k (t .follow C))) (λ w. true)
 
   -- no row asks less of its left operand than it has itself
   abbrev pub Tight : Type 0
@@ -259,9 +315,8 @@ module _ (t : Table) where
 
   -- the test. Each field holds by computation
   pub record Checked (S : Nt) : Type 0 where
-    pub ends : followB S (t .eof) ≡ true
+    pub ends : followB S 0 (t .eof) ≡ true
     pub any : reads S ≡ true
-    pub stops : allb (Kinds (λ C k q. notb (mem k (t .follow C)))) (t .tails) ≡ true
     pub leaves : allb (Kinds leavesOK) (t .heads) ≡ true
     pub follows-h : allb (Rows (λ C r. itemsOK C r (r .items))) (t .heads) ≡ true
     pub follows-t : allb (Rows (λ C r. itemsOK C r (r .items))) (t .tails) ≡ true
@@ -279,27 +334,23 @@ module _ (t : Table) where
   line-ok p h l A r (continues {c = c} {k = k} {q = q} e) = let f = found (λ e. p (e .row)) (A .of) k r (t .tails) l (cont-found A q c k r e .0) in subst (λ z. p z ≡ true) (f .4) (f .1)
 
   module _ (S : Nt) (c : Checked S) where
-    stops-ok : (A : Nt) (b k : ℕ) (r : Row) → followB A k ≡ true → contOf t A r b k ≡ none
-    stops-ok A b k r f = not-found (contOf t A r b k) (λ q e. let x = cont-found A r b k q e in
-        follow-inv A k f (λ m. not-both (mem k (t .follow (A .of))) (kinds-ok (λ C k q. notb (mem k (t .follow C))) (A .of) k q (t .tails) (c .stops) (x .0)) m)
-        (λ q' e' l. let y : some q ≡ some q' = sym (x .0) ∙ e' in let z : q ≡ q' = cc in let g = leb-le (A .least) (q .str) (x .1) in
-        let w : q .str ≡ q' .str = ap (λ z. z .str) z in absurd (omega arith)))
+    stops-ok : (A : Nt) (b k : ℕ) (r : Row) → followB A (min (r .cap) b) k ≡ true → contOf t A r b k ≡ none
+    stops-ok A b k r f = not-found (contOf t A r b k) (λ q e. let x = cont-found A r b k q e in let g = leb-le (A .least) (q .str) (x .1) in
+        let l = loose-at (A .of) (A .least) k q (follow-loose A (min (r .cap) b) k f) (x .0) in omega arith)
 
-    leaves-ok : (B : Nt) (k : ℕ) → nullOf t B ≡ true → followB B k ≡ true → enterOf t B k ≡ none
+    leaves-ok : (B : Nt) (k : ℕ) → nullOf t B ≡ true → followB B 99 k ≡ true → enterOf t B k ≡ none
     unfolding leavesOK pick nullOf
-    leaves-ok B k n f = not-found (enterOf t B k) (λ r e.
-        follow-inv B k f (λ m. not-both (mem k (t .follow (B .of)))
-        (rw (both-l (mem (B .of) (t .nulls)) (eqb (B .least) 0) n) at (kinds-ok leavesOK (B .of) k r (t .heads) (c .leaves) (enter-found B k r e .0))) m)
-        (λ q e' l. let z = eqb-eq (B .least) 0 (both-r (mem (B .of) (t .nulls)) (eqb (B .least) 0) n) in absurd (omega arith)))
+    leaves-ok B k n f = not-found (enterOf t B k) (λ r e. not-both (listed 99 k (t .follow (B .of)))
+        (rw (both-l (mem (B .of) (t .nulls)) (eqb (B .least) 0) n) at (kinds-ok leavesOK (B .of) k r (t .heads) (c .leaves) (enter-found B k r e .0))) (follow-listed B 99 k f))
 
     pub laws : Laws (gram t) FollowOf S
     laws = record {
-      ends = c .ends;
+      ends = λ b. follow-more S 0 b (t .eof) (omega arith) (c .ends);
       any = read-some S (c .any);
       stops = stops-ok;
       leaves = leaves-ok;
-      follows = λ A r o B is k s f. all-mem (followB B) (firstsL is (afterL (A .of) r)) k
-          (items-ok (A .of) r s (row-ok (λ C r. itemsOK C r (r .items)) (c .follows-h) (c .follows-t) A r o)) (firsts-found A r (row-least A r o) is k f);
+      follows = λ A r o B is b k s. firsts-ok A r (row-least A r o) (followB B) (follow-more B) is b k
+          (items-ok (A .of) r s (row-ok (λ C r. itemsOK C r (r .items)) (c .follows-h) (c .follows-t) A r o));
       least = λ A r o B is s. pick-inv (nullOf t B) true (λ w. reads B) true
           (least-ok s (line-ok (λ r. leastOK (r .items)) (c .least-h) (c .least-t) A r o)) (λ n e. inl n) (λ n e. inr (read-some B e));
     }

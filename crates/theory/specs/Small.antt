@@ -5,7 +5,7 @@ use mathlib.Core.List.{List, [], _∷_}
 use Prim.Native.Nat.{ℕ, _+_}
 use lib.Dec.{ltb, eqb, leb}
 use Rattle.theory.specs.Trees.{Tok, Nt, Item, lit, nt, Row, Tree, nil, add, leaf, node}
-use Rattle.theory.specs.Table.{Line, Table, pick, both}
+use Rattle.theory.specs.Table.{Line, Come, Table, pick, both}
 
 -- an expression of strength s or tighter; any of a class
 abbrev pub expr : ℕ → Nt
@@ -34,7 +34,7 @@ unfoldable pub heads : List Line
 heads = line exprs (1 ∷ 2 ∷ []) (row 20 12 [])
     ∷ line exprs (12 ∷ []) (row 33 12 (nt (any 23) ∷ lit 13 ∷ []))
     ∷ line exprs (19 ∷ []) (row 38 11 (nt (expr 11) ∷ []))
-    ∷ line exprs (36 ∷ []) (row 38 3 (nt (expr 3) ∷ []))
+    ∷ line exprs (36 ∷ []) (record { code = 38; str = 9; left = 9; cap = 3; items = nt (expr 3) ∷ [] })
     ∷ line (20 ∷ 23 ∷ []) (52 ∷ []) (row 1 0 (nt (expr 1) ∷ nt (any 21) ∷ nt (any 22) ∷ []))
     ∷ line (20 ∷ []) (70 ∷ []) (row 2 0 (nt (any 24) ∷ nt (any 25) ∷ []))
     ∷ line (24 ∷ []) (12 ∷ []) (row 4 0 (nt (expr 1) ∷ nt (any 21) ∷ lit 13 ∷ []))
@@ -49,9 +49,13 @@ tails = line exprs (17 ∷ []) (row 39 8 (nt (expr 9) ∷ []))
     ∷ line (21 ∷ []) (14 ∷ []) commaRow
     ∷ line (25 ∷ []) (14 ∷ []) rowsRow ∷ []
 
-unfoldable pub follows : ℕ → List ℕ
-follows C = pick (eqb C 1) (13 ∷ 0 ∷ 60 ∷ 14 ∷ []) (λ w. pick (eqb C 21) (13 ∷ 0 ∷ 60 ∷ []) (λ w. pick (eqb C 22) (13 ∷ 0 ∷ [])
-    (λ w. pick (eqb C 23) (13 ∷ []) (λ w. pick (eqb C 24) (14 ∷ 0 ∷ []) (λ w. 0 ∷ [])))))
+abbrev pub come : ℕ → List ℕ → Come
+come s ks = record { asks = s; at = ks }
+
+unfoldable pub follows : ℕ → List Come
+follows C = pick (eqb C 1) (come 0 (13 ∷ 0 ∷ 60 ∷ 14 ∷ []) ∷ come 4 (28 ∷ []) ∷ come 7 (18 ∷ 19 ∷ []) ∷ come 8 (17 ∷ []) ∷ [])
+    (λ w. pick (eqb C 21) (come 0 (13 ∷ 0 ∷ 60 ∷ []) ∷ []) (λ w. pick (eqb C 22) (come 0 (13 ∷ 0 ∷ []) ∷ [])
+    (λ w. pick (eqb C 23) (come 0 (13 ∷ []) ∷ []) (λ w. pick (eqb C 24) (come 0 (14 ∷ 0 ∷ []) ∷ []) (λ w. come 0 (0 ∷ []) ∷ [])))))
 
 abbrev pub tok : ℕ → Tok
 tok k = record { kind = k; text = 0 }

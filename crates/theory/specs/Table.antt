@@ -12,14 +12,19 @@ pub record Line : Type 0 where
   pub at : List ℕ
   pub row : Row
 
+-- kinds that may come after something, and the strength that they ask of its end (0: none)
+pub record Come : Type 0 where
+  pub asks : ℕ
+  pub at : List ℕ
+
 -- heads: the rows that begin; tails: those that go on from a left operand. nulls: the classes that may be absent.
--- follow: for each class, kinds that may come after it, beside the tails that are looser than what is asked.
+-- follow: for each class, what may come after it; of its own tails, where they are looser than what is asked.
 -- witness: for each class, tokens that it derives at every strength that is asked. (The last two only serve the table's test.)
 pub record Table : Type 0 where
   pub heads : List Line
   pub tails : List Line
   pub nulls : List ℕ
-  pub follow : ℕ → List ℕ
+  pub follow : ℕ → List Come
   pub witness : ℕ → List Tok
   pub eof : ℕ
 

@@ -46,7 +46,7 @@ cast-t8 c = search needs
 
 -- src/lib.rt:331:1
 returns-3 : tie.Need-returns-3
-returns-3 c = (record { why = 5; is = refl }, ap (λ z. step.Refused z (c .before .before .before .args .at)) (sym (deep-five _ (strengthAsked (c .before .before .before .args .ask)) (sym (c .before .before .begins-expr .ensures) ∙ not-false _ (c .before .if1 .left)) (⊎-elim (λ w. no-right _ _ (le-ltb 3 (strengthAsked (c .before .before .before .args .ask)) (omega (arith, w .1 .ensures, w .2 .left)))) (λ w. no-left _ _ (ne-eqb _ _ (w .left))) (c .if2 .came)))))
+returns-3 c = (record { why = 5; is = refl }, ap (λ z. step.Refused z (c .before .before .before .args .at)) (sym (deep-five _ (strengthAsked (c .before .before .before .args .ask)) (sym (c .before .before .begins-expr .ensures) ∙ not-false _ (c .before .if1 .left)) (⊎-elim (λ w. no-right _ _ (le-ltb 10 (strengthAsked (c .before .before .before .args .ask)) (omega (arith, w .1 .ensures, w .2 .left)))) (λ w. no-left _ _ (ne-eqb _ _ (w .left))) (c .if2 .came)))))
 
 pub too-deep-spec : {M : Type 1} → statement M
 too-deep-spec =

@@ -136,6 +136,7 @@ use Rattle.reader.proofs.ended.Reads as ended-reads
 use Rattle.reader.proofs.got.Reads as got-reads
 use Rattle.reader.proofs.is_bare.Reads as is-bare-reads
 use Rattle.reader.proofs.joined.Reads as joined-reads
+use Rattle.reader.proofs.least.Reads as least-reads
 use Rattle.reader.proofs.lent.Reads as lent-reads
 use Rattle.reader.proofs.literal_text.Reads as literal-text-reads
 use Rattle.reader.proofs.name.Reads as name-reads
@@ -588,7 +589,7 @@ operand-claims t = (deeper-reads.Asked, deeper-reads.Learnt, paren-below t, pare
 
 -- what `ops` calls
 abbrev pub ops-claims : ℕ → ops-lts.Claims
-ops-claims t = (asked-reads.Asked, asked-reads.Learnt, peek-reads.Asked, peek-reads.Learnt, strength-reads.Asked, strength-reads.Learnt, deeper-reads.Asked, deeper-reads.Learnt, op-below t, op.Post, got-reads.Asked, got-reads.Learnt)
+ops-claims t = (asked-reads.Asked, asked-reads.Learnt, peek-reads.Asked, peek-reads.Learnt, strength-reads.Asked, strength-reads.Learnt, deeper-reads.Asked, deeper-reads.Learnt, op-below t, op.Post, least-reads.Asked, least-reads.Learnt, got-reads.Asked, got-reads.Learnt)
 
 -- what `paren` calls
 abbrev pub paren-claims : ℕ → paren-lts.Claims
@@ -620,7 +621,7 @@ select-claims t = (peek-reads.Asked, peek-reads.Learnt, cols-below t, cols.Post,
 
 -- what `sign` calls
 abbrev pub sign-claims : ℕ → sign-lts.Claims
-sign-claims t = (prefix-reads.Asked, prefix-reads.Learnt, asked-reads.Asked, asked-reads.Learnt, wrong-reads.Asked, wrong-reads.Learnt, deeper-reads.Asked, deeper-reads.Learnt, expr-below t, expr.Post, emit-reads.Asked, emit-reads.Learnt, got-reads.Asked, got-reads.Learnt)
+sign-claims t = (prefix-reads.Asked, prefix-reads.Learnt, asked-reads.Asked, asked-reads.Learnt, wrong-reads.Asked, wrong-reads.Learnt, deeper-reads.Asked, deeper-reads.Learnt, expr-below t, expr.Post, emit-reads.Asked, emit-reads.Learnt, least-reads.Asked, least-reads.Learnt, got-reads.Asked, got-reads.Learnt)
 
 -- what `sort` calls
 abbrev pub sort-claims : ℕ → sort-lts.Claims

@@ -11,7 +11,7 @@ use mathlib.Core.Path.{_≡_, refl, _∙_}
 use native.Mathlib.Omega.{arith}
 use Rattle.reader.proofs.+after+among+binary+body+call+case+cased+cast+clause+col+cols+ex+exists+expr+from+group+joins+leaf+limit+list+on+op+operand+ops+paren+parts+query+range+row+rows+select+sign+sort+source+src+sub+tail+when.Proof.Common.{ops-claims, ops-at}
 use Rattle.reader.proofs.Laying.{for-any, laid, took, left, goes, halts, behind, _also_, next, at-once, so, strength-of}
-use Rattle.reader.proofs.KindTests.{ops-walk}
+use Rattle.reader.proofs.KindTests.{ops-walk, ops-goes}
 use Rattle.descent.proofs.Filling.{nothing}
 use Rattle.descent.proofs.Walk.{deeper, exprW, opsW}
 use Rattle.grammar.specs.Limits.{Around}
@@ -76,14 +76,22 @@ pub returns : (t : ℕ) → lts.Need-returns (ops-claims t) (ops-at t) ops.Post 
 unfolding exprW
 returns t c = (passed-on (c .before .before .before .before .op .ensures .0) (c .enum-told .given .1), λ s pre b. record { does = λ a p. c .before .before .before .before .before .before .before .before .before .before .before .before .loop .inv .1 a s pre p b _ _ (next (for-any _ _ (λ pre e. c .before .before .before .before .op .ensures .1 (c .before .before .before .before .before .before .before .before .before .before .strength .result + 1) pre e .does (deeper a) (c .before .before .before .before .before .deeper .ensures .1 .packs a s p)) (omega (arith, c .before .before .before .before .before .before .before .before .before .before .before .before .before .before .before .pre, c .before .before .before .before .before .before .before .before .before .before .before .before .loop .inv .0))) (λ f h z e. ops-walk f a s (c .before .before .before .before .before .before .before .before .before .before .before .before .loop .left) z (c .before .before .before .before .before .before .before .before .before .before .before .peek .ensures) (c .before .before .before .before .before .before .before .before .before .before .strength .ensures) (left _ _ _ (ne-eqb _ _ (c .before .before .before .before .before .before .before .before .before .if1 .left)) (left _ _ _ (le-ltb (c .before .before .before .before .before .before .before .before .before .before .strength .result) s (omega (arith, (c .before .before .before .before .before .before .before .before .before .before .before .before .before .asked .ensures ∙ strength-of p), c .before .before .before .before .before .before .before .before .if2 .left))) (left _ _ _ (le-ltb (c .before .before .before .before .before .before .before .before .before .before .before .before .loop .left) (c .before .before .before .before .before .before .before .before .before .before .strength .result) (c .before .before .before .before .before .before .before .if3 .left)) (halts _ _ (h z e) (c .enum-told .given .1))))))) })
 
+-- src/lib.rt:433:25
+pub cast-least : (t : ℕ) → lts.Need-cast-least (ops-claims t) (ops-at t) ops.Post ops-Inv-loop ops-μ-loop
+cast-least t c = omega (arith, got-in (c .before .before .before .before .before .op .ensures .0) (c .before .r .given .1))
+
+-- src/lib.rt:433:16
+pub least-requires : (t : ℕ) → lts.Need-least-requires (ops-claims t) (ops-at t) ops.Post ops-Inv-loop ops-μ-loop
+least-requires t c κs = search needs
+
 -- src/lib.rt:363:5
 pub loop-less : (t : ℕ) → lts.Need-loop-less (ops-claims t) (ops-at t) ops.Post ops-Inv-loop ops-μ-loop
-loop-less t c = omega (arith, got-in (c .before .before .before .before .before .op .ensures .0) (c .before .r .given .1), c .before .before .before .before .before .before .before .before .before .before .before .before .before .before .before .before .pre, c .before .before .before .before .before .before .before .before .if3 .left, c .before .before .before .before .before .before .before .before .before .if2 .left, c .before .before .before .before .before .before .before .before .before .before .if1 .left, c .before .before .before .before .before .before .before .before .before .before .before .before .peek .ensures, c .before .before .before .before .before .before .before .before .before .before .before .before .before .loop .inv)
+loop-less t c = omega (arith, got-in (c .before .before .before .before .before .before .op .ensures .0) (c .before .before .r .given .1), c .before .before .before .before .before .before .before .before .before .before .before .before .before .before .before .before .before .pre, c .before .before .before .before .before .before .before .before .before .if3 .left, c .before .before .before .before .before .before .before .before .before .before .if2 .left, c .before .before .before .before .before .before .before .before .before .before .before .if1 .left, c .before .before .before .before .before .before .before .before .before .before .before .before .before .peek .ensures, c .before .before .before .before .before .before .before .before .before .before .before .before .before .before .loop .inv)
 
 -- src/lib.rt:363:5
 pub loop-again : (t : ℕ) → lts.Need-loop-again (ops-claims t) (ops-at t) ops.Post ops-Inv-loop ops-μ-loop
 unfolding exprW
-loop-again t c = (omega (arith, got-in (c .before .before .before .before .before .op .ensures .0) (c .before .r .given .1), c .before .before .before .before .before .before .before .before .before .before .before .before .before .before .before .before .pre, c .before .before .before .before .before .before .before .before .if3 .left, c .before .before .before .before .before .before .before .before .before .if2 .left, c .before .before .before .before .before .before .before .before .before .before .if1 .left, c .before .before .before .before .before .before .before .before .before .before .before .before .peek .ensures, c .before .before .before .before .before .before .before .before .before .before .before .before .before .loop .inv), λ a s pre p b r N l. c .before .before .before .before .before .before .before .before .before .before .before .before .before .loop .inv .1 a s pre p b r N (next (for-any _ _ (λ pre e. c .before .before .before .before .before .op .ensures .1 (c .before .before .before .before .before .before .before .before .before .before .before .strength .result + 1) pre e .does (deeper a) (c .before .before .before .before .before .before .deeper .ensures .1 .packs a s p)) (omega (arith, c .before .before .before .before .before .before .before .before .before .before .before .before .before .before .before .before .pre, c .before .before .before .before .before .before .before .before .before .before .before .before .before .loop .inv .0)) also l) (λ f h z e. ops-walk f a s (c .before .before .before .before .before .before .before .before .before .before .before .before .before .loop .left) z (c .before .before .before .before .before .before .before .before .before .before .before .before .peek .ensures) (c .before .before .before .before .before .before .before .before .before .before .before .strength .ensures) (left _ _ _ (ne-eqb _ _ (c .before .before .before .before .before .before .before .before .before .before .if1 .left)) (left _ _ _ (le-ltb (c .before .before .before .before .before .before .before .before .before .before .before .strength .result) s (omega (arith, (c .before .before .before .before .before .before .before .before .before .before .before .before .before .before .asked .ensures ∙ strength-of p), c .before .before .before .before .before .before .before .before .before .if2 .left))) (left _ _ _ (le-ltb (c .before .before .before .before .before .before .before .before .before .before .before .before .before .loop .left) (c .before .before .before .before .before .before .before .before .before .before .before .strength .result) (c .before .before .before .before .before .before .before .before .if3 .left)) (goes _ _ (h .0 z e) (c .before .r .given .1) (λ rs F. behind _ _ F (h .1 (z + length rs) (let g = F .counted in omega (arith, e, g)))))))))))
+loop-again t c = (omega (arith, got-in (c .before .before .before .before .before .before .op .ensures .0) (c .before .before .r .given .1), c .least .ensures, c .before .before .before .before .before .before .before .before .before .before .before .before .before .before .before .before .before .pre, c .before .before .before .before .before .before .before .before .before .if3 .left, c .before .before .before .before .before .before .before .before .before .before .if2 .left, c .before .before .before .before .before .before .before .before .before .before .before .if1 .left, c .before .before .before .before .before .before .before .before .before .before .before .before .before .peek .ensures, c .before .before .before .before .before .before .before .before .before .before .before .before .before .before .loop .inv .0), λ a s pre p b r N l. c .before .before .before .before .before .before .before .before .before .before .before .before .before .before .loop .inv .1 a s pre p b r N (next (for-any _ _ (λ pre e. c .before .before .before .before .before .before .op .ensures .1 (c .before .before .before .before .before .before .before .before .before .before .before .before .strength .result + 1) pre e .does (deeper a) (c .before .before .before .before .before .before .before .deeper .ensures .1 .packs a s p)) (omega (arith, c .before .before .before .before .before .before .before .before .before .before .before .before .before .before .before .before .before .pre, c .before .before .before .before .before .before .before .before .before .before .before .before .before .before .loop .inv .0)) also l) (λ f h z e. ops-goes f a s (c .before .before .before .before .before .before .before .before .before .before .before .before .before .before .loop .left) z (c .before .before .before .before .before .before .before .before .before .before .before .before .before .peek .ensures) (c .before .before .before .before .before .before .before .before .before .before .before .before .strength .ensures) (c .least .ensures) (ne-eqb _ _ (c .before .before .before .before .before .before .before .before .before .before .before .if1 .left)) (le-ltb (c .before .before .before .before .before .before .before .before .before .before .before .before .strength .result) s (omega (arith, (c .before .before .before .before .before .before .before .before .before .before .before .before .before .before .before .asked .ensures ∙ strength-of p), c .before .before .before .before .before .before .before .before .before .before .if2 .left))) (le-ltb (c .before .before .before .before .before .before .before .before .before .before .before .before .before .before .loop .left) (c .before .before .before .before .before .before .before .before .before .before .before .before .strength .result) (c .before .before .before .before .before .before .before .before .before .if3 .left)) (h .0 z e) (c .before .before .r .given .1) (λ rs F. h .1 (z + length rs) (let g = F .counted in omega (arith, e, g))))))
 
 -- src/lib.rt:383:19
 pub cast-got : (t : ℕ) → lts.Need-cast-got (ops-claims t) (ops-at t) ops.Post ops-Inv-loop ops-μ-loop
