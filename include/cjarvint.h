@@ -51,7 +51,8 @@ cjarvint_answer cjarvint_read(const uint32_t *kinds, size_t kinds_length,
  * the first `place` numbers of both output lists are the writing's kinds and text numbers, and the numbers beyond keep what they were.
  * Refused by 1 to 9: no number changes. Refused by 10: the reading stands in the table; the output lists are as they were.
  *
- * A writing may be longer than its command, for a bare alias gets its AS, and NOT right of a tighter operator its parentheses.
+ * A writing may be longer than its command, for a bare alias gets its AS and a NOT to the right, as in wet = NOT dry, its parentheses; these
+ * make it deeper too. A writing of over 4,096 tokens, or deeper than 64 levels, is refused when it is read in its turn.
  */
 cjarvint_answer cjarvint_write(const uint32_t *kinds, size_t kinds_length,
                                const uint32_t *texts, size_t texts_length,

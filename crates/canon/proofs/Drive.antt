@@ -4,7 +4,7 @@ use mathlib.Core.Bool.{true, Bool}
 use mathlib.Core.List.{List, [], _∷_}
 use mathlib.Core.Option.{some}
 use mathlib.Core.Path.{_≡_, refl, sym, ap, _∙_, subst}
-use Prim.Native.Nat.{ℕ, _+_, min, zero, suc}
+use Prim.Native.Nat.{ℕ, _+_, _≤_, min, zero, suc}
 use borrow.Author.Tests.{ltb-false}
 use lib.Dec.{ltb, eqb, leb}
 use native.Mathlib.Omega.{arith}
@@ -40,9 +40,9 @@ none-before n = omega arith
 no-more : (m : ℕ) → m ≡ m + 0
 no-more m = omega arith
 
-not-above : (n : ℕ) → _≡_ {A = ℕ} (pick (ltb (prefixOf NOT) n) 1 (λ w. 0)) 0 → leb n (prefixOf NOT) ≡ true
+not-above : (m n : ℕ) → _≡_ {A = ℕ} (pick (ltb m n) 1 (λ w. 0)) 0 → n ≤ m
 unfolding pick
-not-above n e = by-bool (ltb (prefixOf NOT) n) (λ h. absurd (let z : _≡_ {A = ℕ} 1 0 = rw h at e in omega arith)) (λ h. le-leb n (prefixOf NOT) (ltb-false (prefixOf NOT) n h))
+not-above m n e = by-bool (ltb m n) (λ h. absurd (let z : _≡_ {A = ℕ} 1 0 = rw h at e in omega arith)) (λ h. ltb-false m n h)
 
 -- ── two tests of the table ──
 unfoldable properItems : List Item → Bool
@@ -123,7 +123,7 @@ Rights x s = AllZero (faultsIn ℕ asking rightNot x s 0)
 
 -- where there is none, an expression is asked for no more than its row leaves
 spare : {B : Nt} {m : Tree} {s : Tok} {q : Row} → Opens G B m s q → leb (B .least) (q .str) ≡ true → leb (q .str) 12 ≡ true → rightNot (B .least) q m s nil ≡ 0 → isExpression q ≡ true → leb (B .least) (q .cap) ≡ true
-unfolding rightNot isNone both pick
+unfolding rightNot isNone both pick prefixOf
 spare {B} {s = s} {q = q} (tail {q = p} {f = f} o g e) le tw w x =
     let c = rows-ok (λ C r. leb 12 (r .cap)) (B .of) (s .kind) q (sql .tails) tails-leave (cont-found sql B p (capOf f) (s .kind) q e .0) in
     le-trans (B .least) 12 (q .cap) (le-trans (B .least) (q .str) 12 le tw) c
@@ -131,7 +131,9 @@ spare {B} {s = s} {q = q} (head e) le tw w x =
     pick-inv (leb 12 (q .cap)) true _ true (kinds-ok (λ C k r. pick (leb 12 (r .cap)) true (λ w. pick (isExpression r) (both (eqb k NOT) (leb (prefixOf NOT) (r .cap))) (λ w. true))) (B .of) (s .kind) q (sql .heads) heads-leave (enter-found sql B (s .kind) q e .0))
     (λ h y. le-trans (B .least) 12 (q .cap) (le-trans (B .least) (q .str) 12 le tw) h)
     (λ h y. let n = rw x at y in
-    le-trans (B .least) (prefixOf NOT) (q .cap) (not-above (B .least) (rw (x, both-l (eqb (s .kind) NOT) _ n) at w)) (both-r (eqb (s .kind) NOT) _ n))
+    let i = leb-le (prefixOf NOT) (q .cap) (both-r (eqb (s .kind) NOT) _ n) in
+    let j = not-above _ (B .least) (rw (x, both-l (eqb (s .kind) NOT) _ n) at w) in
+    le-leb (B .least) (q .cap) (omega (arith, i, j)))
 
 -- ── the induction ──
 node-left : (c : Around) (r : Row) (l : Tree) (t : Tok) (f : Tree) → Clean (node r l t f) c → Clean l c

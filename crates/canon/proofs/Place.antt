@@ -1,5 +1,5 @@
 -- A canonical tree at its place (place): an expression as it is where it is strong enough, and in parentheses where it is not (placed).
--- The parentheses are no deeper than those that stood there. Assumes nothing.
+-- Where levels count, the parentheses are no deeper than those that stood there. Assumes nothing.
 use mathlib.Core.Bool.{true, false, Bool}
 use mathlib.Core.List.{List, [], _∷_, _++_}
 use mathlib.Core.Logic.{_⊎_, inl, inr}

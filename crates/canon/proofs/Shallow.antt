@@ -3,7 +3,7 @@
 use mathlib.Core.Bool.{true, false}
 use mathlib.Core.List.{List, [], _∷_, _++_, append-nil, map, map-append}
 use mathlib.Core.Path.{_≡_, refl, subst}
-use Prim.Native.Nat.{ℕ, _+_, _≤_, zero, suc}
+use Prim.Native.Nat.{ℕ, _+_, _≤_}
 use borrow.Author.Tests.{le-ltb, ltb-false}
 use lib.Dec.{ltb}
 use native.Mathlib.Omega.{arith}
@@ -17,7 +17,7 @@ use Rattle.grammar.specs.Sizes.{LEVELS}
 use Rattle.grammar.specs.Limits.{Around, outer, isQuery, isExpression, begun, judge}
 use Rattle.grammar.specs.Limits as limits
 use Rattle.grammar.specs.Levels.{Mark, starts, insideOf, goesOn, marks, marksOfParts, word}
-use Rattle.grammar.proofs.LevelsHold.{at, lifted, oneMore, below-at, lifted-raised, none-passed}
+use Rattle.grammar.proofs.LevelsHold.{at, lifted, oneMore, below-at, lifted-raised, lifted-zero, none-passed}
 use Rattle.canon.specs.Promise.{Within}
 use Rattle.canon.proofs.Counted.{raise, below, under, all-app, all-left, all-right, five, uncounted}
 
@@ -28,7 +28,7 @@ word-within m e = pick-inv (ltb LEVELS (m .level)) 5 _ 0 e (λ h x. five x) (λ 
 
 words-within : (ms : List Mark) → AllZero (map word ms) → Within ms
 words-within [] z = tt
-words-within (m ∷ ms) z = (word-within m (z .0), words-within ms (z .1))
+words-within (m ∷ ms) z = (let h = word-within m (z .0) in omega (arith, h), words-within ms (z .1))
 
 pub marks-within : (ts : List Tok) (y : Tree) → IsCommand ts y → AllZero (limits.limits y) → Within (marks y)
 marks-within ts y c z = words-within (marks y) (none-passed ts y c .0 z)
@@ -56,13 +56,8 @@ seen-apart : (r : Row) (d : ℕ) (a b : List Mark) → Seen d (map (insideOf r) 
 seen-apart r d a b z = rw map-append at z
 
 seen-outside : (ms : List Mark) → Within ms → Seen 0 ms
-unfolding lifted
 seen-outside [] z = tt
-seen-outside (m ∷ ms) z = (outside (m .level) (z .0), seen-outside ms (z .1))
-  where
-    outside : (n : ℕ) → n ≤ LEVELS → lifted 0 n ≤ LEVELS
-    outside zero h = h
-    outside (suc n) h = omega (arith, h)
+seen-outside (m ∷ ms) z = (let e = lifted-zero (m .level) in omega (arith, e, z .0), seen-outside ms (z .1))
 
 abbrev free : ℕ → Around
 free o = record { level = 0; opened = o }

@@ -362,7 +362,7 @@ mutual
       (λ z. inside-holds (node q m s g) (node-holds g a (λ d o. opens-hold a d o) (λ k d o. part-holds b _ _ _ refl k d o)) r d o))
 
 -- seen from nowhere further out, a mark is what it is
-lifted-zero : (n : ℕ) → lifted 0 n ≡ n
+pub lifted-zero : (n : ℕ) → lifted 0 n ≡ n
 unfolding lifted
 lifted-zero zero = refl
 lifted-zero (suc n) = omega arith
