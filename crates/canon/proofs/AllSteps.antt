@@ -10,8 +10,8 @@ use Rattle.theory.specs.Trees.{Tok, Item, lit, nt, Row, Tree, nil, node}
 use Rattle.theory.specs.Table.{mem, lookup, nullOf, pick}
 use Rattle.kinds.specs.Kinds.{INDEXED, NULL, LP, RP, COMMA, DOT, STAR, PLUS, MINUS, SLASH, REM, CONCAT, BITAND, BITOR, LSHIFT, RSHIFT, BITNOT, EQ, NE, LT, LE, GT, GE, AND, OR, NOT, IS, IN, BETWEEN, LIKE-KW, ISNULL, NOTNULL, COLLATE, CASE, WHEN, THEN, ELSE, END, CAST, AS, EXISTS, SELECT, VALUES, DISTINCT, FROM, JOIN, ON, USING, WHERE, GROUP, BY, HAVING, ORDER, DESC, NULLS, FIRST, LAST}
 use Rattle.kinds.specs.Classes.{names, literals}
-use Rattle.grammar.specs.Classes.{Command, Name, Query, Paren, FirstLast, Column, Source, Not, Semi?, Names?, Exprs?, Inside?, Order?, Terms?, Way?, Nulls?, Distinct?, Columns?, From?, Where?, Group?, Having?, Joins?, On?, Dot?, Alias?, Index?, Base?, Args?, Whens?, Else?, E, any, IsRight, afterIs}
-use Rattle.grammar.specs.RowNames.{row-select, row-values, row-next-name, row-next-expr, row-order, row-next-term, row-desc, row-nulls, row-first, row-last, row-distinct, row-next-column, row-from, row-where, row-group, row-having, row-star, row-comma-join, row-join, row-on, row-using, row-table, row-query-source, row-dot-name, row-indexed-by, row-not-indexed, row-prefix, row-is, row-is-not, row-like, row-in, row-between, row-not-like, row-not-in, row-not-between, row-not-null, row-null-test, row-collate, row-literal, row-star-args, row-distinct-args, row-exists, row-case, row-next-when, row-else, row-cast}
+use Rattle.grammar.specs.Classes.{Command, Name, Query, Paren, FirstLast, Column, Source, Not, Semi?, Names?, Exprs?, Inside?, Order?, Terms?, Way?, Nulls?, Distinct?, Columns?, From?, Where?, Group?, Having?, Joins?, On?, Dot?, Alias?, Index?, Base?, Args?, Whens?, Else?, E, any, afterIs}
+use Rattle.grammar.specs.RowNames.{row-select, row-values, row-next-name, row-next-expr, row-order, row-next-term, row-desc, row-nulls, row-first, row-last, row-distinct, row-next-column, row-from, row-where, row-group, row-having, row-star, row-comma-join, row-join, row-on, row-using, row-table, row-query-source, row-dot-name, row-indexed-by, row-not-indexed, row-prefix, row-is, row-like, row-in, row-between, row-not-like, row-not-in, row-not-between, row-not-null, row-null-test, row-collate, row-literal, row-star-args, row-distinct-args, row-exists, row-case, row-next-when, row-else, row-cast}
 use Rattle.grammar.specs.Rows.{part, strong, binary, butColumn, butIs, exprs, selectItems, valuesItems, lines, headsOf, tailsOf, optional, running}
 use Rattle.grammar.specs.Grammar.{sql, G}
 use Rattle.grammar.specs.Limits.{Around, isQuery, members}
@@ -28,7 +28,7 @@ use Rattle.canon.proofs.Sources.{indexed-by-says, not-indexed-says, tab
 use Rattle.canon.proofs.Clauses.{next-name-says, next-expr-says, desc-says, first-says, last-says, nulls-says, order-says, next-term-says, where-says, having-says, group-says, distinct-says}
 use Rattle.canon.proofs.Queries.{star-column-says, next-column-says, select-query, select-inner, values-query, values-inner, select-command, values-command}
 use Rattle.canon.proofs.Vanish.{all-step, asc-step, semi-step, name-step, source-as-step, source-bare-step}
-use Rattle.canon.proofs.Operators.{Binary, binary-says, prefix-says, is-says, is-not-says, like-says, between-says, null-test-says, collate-says, in-says}
+use Rattle.canon.proofs.Operators.{Binary, binary-says, prefix-says, is-says, like-says, between-says, null-test-says, collate-says, in-says}
 use Rattle.canon.proofs.Atoms.{literal-says, exists-says, cast-says, case-says, next-when-says, else-says}
 use Rattle.canon.proofs.Nots.{not-like-says, not-in-says, not-between-says, not-null-says, not-step}
 use Rattle.canon.proofs.Parens.{parens-step}

@@ -1,9 +1,9 @@
 -- Levels, counted or not. Canonical trees are made once for both. Seen around at level 0, no level counts: the writing's parentheses may stand
 -- deeper than those that were typed. Seen at 1 or deeper, all count, and what stands inside is as Limits has it (same-in). mono: what is
 -- within the limits is so less deep, and uncounted. Assumes nothing.
-use mathlib.Core.Bool.{true, false}
+use mathlib.Core.Bool.{true}
 use mathlib.Core.List.{List, [], _∷_, _++_}
-use mathlib.Core.Path.{_≡_, refl, sym, ap, _∙_}
+use mathlib.Core.Path.{_≡_, refl, sym, _∙_}
 use Prim.Native.Nat.{ℕ, _+_, _≤_, zero, suc}
 use borrow.Author.Tests.{ltb-true, lt-ltb}
 use lib.Dec.{ltb, leb}
@@ -12,7 +12,7 @@ use Rattle.theory.specs.Trees.{Tok, Row, Tree, nil, add, leaf, node}
 use Rattle.theory.specs.Table.{pick, both}
 use Rattle.theory.specs.Judged.{faultsIn, faultsKids, AllZero}
 use Rattle.theory.proofs.Cases.{by-bool, pick-case, 0≢1, both-l, both-r, both-i, leb-le, le-leb}
-use Rattle.grammar.specs.Sizes.{LEVELS, QUERIES}
+use Rattle.grammar.specs.Sizes.{LEVELS}
 use Rattle.grammar.specs.Limits.{Around, isQuery, isExpression, begun, judge}
 use Rattle.grammar.specs.Limits as limits
 

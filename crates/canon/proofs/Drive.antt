@@ -4,7 +4,7 @@ use mathlib.Core.Bool.{true, Bool}
 use mathlib.Core.List.{List, [], _∷_}
 use mathlib.Core.Option.{some}
 use mathlib.Core.Path.{_≡_, refl, sym, ap, _∙_, subst}
-use Prim.Native.Nat.{ℕ, _+_, _≤_, min, zero, suc}
+use Prim.Native.Nat.{ℕ, _+_, _≤_, min, suc}
 use borrow.Author.Tests.{ltb-false}
 use lib.Dec.{ltb, eqb, leb}
 use native.Mathlib.Omega.{arith}

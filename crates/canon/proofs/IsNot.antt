@@ -6,8 +6,8 @@ use mathlib.Core.Path.{_≡_, refl, subst}
 use Prim.Native.Nat.{ℕ, min}
 use lib.Dec.{leb}
 use native.Mathlib.Omega.{arith}
-use Rattle.theory.specs.Trees.{Tok, nt, Row, Tree, nil, node, toks, capOf}
-use Rattle.theory.specs.Table.{pick, both, mem, lookup, enterOf}
+use Rattle.theory.specs.Trees.{Tok, nt, Row, nil, node, toks, capOf}
+use Rattle.theory.specs.Table.{mem, lookup, enterOf}
 use Rattle.theory.specs.Derives.{head, begin, whole}
 use Rattle.theory.specs.Judged.{faultsIn}
 use Rattle.theory.proofs.Cases.{by-bool, leb-le}
@@ -21,7 +21,7 @@ use Rattle.grammar.specs.Limits.{Around, begun}
 use Rattle.grammar.specs.Reading.{value}
 use Rattle.canon.proofs.Counted.{below}
 use Rattle.canon.proofs.Forms.{here, Pack, Result, plain, KidsOf, grow}
-use Rattle.canon.proofs.Rebuild.{said, regrow, regrow-part, new, new-clean, new-toks, new-fit, old-value, new-value, new-cap}
+use Rattle.canon.proofs.Rebuild.{said, regrow-part, new, new-clean, new-toks, new-fit, old-value, new-value, new-cap}
 use Rattle.canon.proofs.Lines.{Finds}
 use Rattle.canon.proofs.Steps.{Fit, HeadStep, only-class, open-tests}
 use Rattle.canon.proofs.Operators.{is-not-says}

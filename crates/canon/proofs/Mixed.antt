@@ -14,7 +14,7 @@ use Rattle.kinds.specs.Kinds.{ID, KWID, STRING, COMMA, AS}
 use Rattle.kinds.specs.Classes.{names}
 use Rattle.grammar.specs.Classes.{Name, Paren, Column, Exprs?, Inside?, Args?, E, any}
 use Rattle.grammar.specs.RowNames.{row-as, row-bare, row-more-exprs}
-use Rattle.grammar.specs.Rows.{once, butColumn, butIs, exprs, selectItems, valuesItems, lines, headsOf, tailsOf}
+use Rattle.grammar.specs.Rows.{once, butColumn, exprs, selectItems, valuesItems, lines, headsOf, tailsOf}
 use Rattle.grammar.specs.Grammar.{sql}
 use Rattle.grammar.specs.Limits.{Around}
 use Rattle.grammar.specs.Reading.{Val, one, value, values}

@@ -1,8 +1,7 @@
 -- levels-needed: demand 3 does not hold without its clause on levels. A command at level 64 is accepted, and its writing, which is no longer
 -- than a list that may be lent, is not, for it stands at level 65. Assumes nothing.
-use mathlib.Core.Bool.{true}
 use mathlib.Core.List.{List}
-use mathlib.Core.Path.{_≡_, refl, sym, subst}
+use mathlib.Core.Path.{refl, sym, subst}
 use Prim.Native.Nat.{ℕ, _≤_, _*_}
 use borrow.Author.Tests.{leb-false}
 use lib.Dec.{leb}

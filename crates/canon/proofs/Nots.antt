@@ -1,7 +1,6 @@
 -- NOT after an operand: NOT LIKE, NOT IN, NOT BETWEEN keep their row; NOT NULL is written NOTNULL. Assumes nothing.
 use mathlib.Core.Bool.{true, false, Bool}
 use mathlib.Core.List.{List, [], _∷_, _++_, append-nil}
-use mathlib.Core.Logic.{inl}
 use mathlib.Core.Option.{some}
 use mathlib.Core.Path.{_≡_, refl, sym, ap, _∙_, subst}
 use Prim.Native.Nat.{ℕ, _+_}

@@ -3,23 +3,22 @@ use mathlib.Core.Bool.{true, false}
 use mathlib.Core.List.{List, [], _∷_, _++_, append-nil}
 use mathlib.Core.Logic.{_⊎_, inl, inr}
 use mathlib.Core.Path.{_≡_, refl, sym, ap, _∙_, subst}
-use Prim.Native.Nat.{ℕ, _≤_}
-use borrow.Author.Tests.{ltb-true, ltb-false, lt-ltb}
+use Prim.Native.Nat.{ℕ}
+use borrow.Author.Tests.{ltb-false}
 use lib.Dec.{ltb, leb}
 use native.Mathlib.Omega.{arith}
 use Rattle.theory.specs.Trees.{Tok, Row, Tree, nil, add, leaf, node, toks}
 use Rattle.theory.specs.Table.{pick, both, mem, nullOf}
-use Rattle.theory.specs.Judged.{faultsIn, faultsKids, AllZero}
-use Rattle.theory.proofs.Cases.{by-bool, pick-case, 0≢1, both-l, both-r, both-i, le-leb}
+use Rattle.theory.proofs.Cases.{by-bool, 0≢1, le-leb}
 use Rattle.kinds.specs.Kinds.{LP, RP}
 use Rattle.grammar.specs.Classes.{Paren, any}
 use Rattle.grammar.specs.RowNames.{row-parens}
 use Rattle.grammar.specs.NodeNames.{node-parens, node-subquery}
 use Rattle.grammar.specs.Nodes.{Nodes, end, mk}
-use Rattle.grammar.specs.Rows.{strong, exprs, optional}
+use Rattle.grammar.specs.Rows.{exprs, optional}
 use Rattle.grammar.specs.Grammar.{sql, G}
 use Rattle.grammar.specs.Sizes.{LEVELS}
-use Rattle.grammar.specs.Limits.{Around, isQuery, begun, judge}
+use Rattle.grammar.specs.Limits.{Around, isQuery, begun}
 use Rattle.grammar.specs.Reading.{Val, empty, choose, isEnd, rules, ruled, valueOf, value, values}
 use Rattle.grammar.specs.Meaning.{isOne, meaning}
 use Rattle.grammar.specs.Writing.{Piece, tok, at, forms, piece, pieces}

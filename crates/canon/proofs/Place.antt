@@ -2,17 +2,17 @@
 -- Where levels count, the parentheses are no deeper than those that stood there. Assumes nothing.
 use mathlib.Core.Bool.{true, false, Bool}
 use mathlib.Core.List.{List, [], _∷_, _++_}
-use mathlib.Core.Logic.{_⊎_, inl, inr}
+use mathlib.Core.Logic.{inl}
 use mathlib.Core.Option.{some}
 use mathlib.Core.Path.{_≡_, refl, sym, ap, _∙_, subst}
 use Prim.Native.Nat.{ℕ, _≤_}
 use borrow.Author.Tests.{le-ltb}
-use lib.Dec.{ltb, eqb, leb}
+use lib.Dec.{eqb, leb}
 use native.Mathlib.Omega.{arith}
 use Rattle.theory.specs.Trees.{Tok, Nt, lit, nt, Row, Tree, nil, add, leaf, node, toks, capOf}
 use Rattle.theory.specs.Table.{pick, both, mem, lookup, enterOf, nullOf}
 use Rattle.theory.specs.Derives.{head, begin, token, child, Ok, whole}
-use Rattle.theory.specs.Judged.{faultsIn, faultsKids, AllZero}
+use Rattle.theory.specs.Judged.{faultsIn, faultsKids}
 use Rattle.theory.proofs.Cases.{by-bool, 0≢1, both-l, both-i, eqb-eq, leb-le, le-leb, both-r}
 use Rattle.theory.proofs.Tested.{asked-some}
 use Rattle.kinds.specs.Kinds.{LP, RP}

@@ -9,7 +9,7 @@ use Rattle.theory.specs.Trees.{Tok, Nt, Item, lit, nt, Row, Tree, nil, add, lea
 use Rattle.theory.specs.Table.{pick, both, mem}
 use Rattle.theory.specs.Derives.{Opens, Part, begin, token, absent, child, whole}
 use Rattle.theory.specs.Judged.{faultsIn, faultsKids, AllZero}
-use Rattle.theory.proofs.Cases.{0≢1, both-l, both-r, eqb-eq, leb-le, le-leb}
+use Rattle.theory.proofs.Cases.{0≢1, both-l, both-r, leb-le, le-leb}
 use Rattle.theory.proofs.Tested.{notb}
 use Rattle.kinds.specs.Fit.{fits}
 use Rattle.grammar.specs.Classes.{any}

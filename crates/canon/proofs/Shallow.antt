@@ -1,6 +1,5 @@
 -- Levels by their marks. marks-within: where the limits have no word, no mark is deeper than 64. within-limits: where none is, and the limits
 -- have no word with levels uncounted, they have none at all. Assumes nothing.
-use mathlib.Core.Bool.{true, false}
 use mathlib.Core.List.{List, [], _∷_, _++_, append-nil, map, map-append}
 use mathlib.Core.Path.{_≡_, refl, subst}
 use Prim.Native.Nat.{ℕ, _+_, _≤_}

@@ -7,7 +7,7 @@ use mathlib.Core.Option.{none}
 use mathlib.Core.Path.{_≡_, refl, sym, _∙_, subst}
 use Prim.Native.Nat.{ℕ, _≤_, _<_, min}
 use borrow.Author.Tests.{le-ltb, eqb-false}
-use lib.Dec.{eqb, leb}
+use lib.Dec.{eqb}
 use native.Mathlib.Omega.{arith}
 use Rattle.theory.specs.Trees.{Tok, Nt, Row, Tree, nil, add, node, capOf}
 use Rattle.theory.specs.Table.{pick, both, mem, contOf}

@@ -3,7 +3,7 @@ use mathlib.Core.Bool.{true, false, Bool}
 use mathlib.Core.List.{List}
 use mathlib.Core.Logic.{inl}
 use mathlib.Core.Option.{some, none}
-use mathlib.Core.Path.{_≡_, refl, sym, _∙_}
+use mathlib.Core.Path.{_≡_, refl, _∙_}
 use Prim.Native.Nat.{ℕ, _+_, _≤_, _<_, suc}
 use borrow.Author.Tests.{ltb-true}
 use lib.Dec.{ltb, eqb, leb}

@@ -4,7 +4,7 @@ use mathlib.Core.List.{List, [], _∷_}
 use mathlib.Core.Option.{none}
 use mathlib.Core.Path.{_≡_, refl, sym, ap, _∙_, subst}
 use Prim.Native.Nat.{ℕ, _+_, _≤_, _<_, min, suc}
-use borrow.Author.Tests.{ne-eqb, ltb-true, eqb-false}
+use borrow.Author.Tests.{ne-eqb, ltb-true}
 use lib.Dec.{ltb, eqb}
 use lib.ListN.{getD}
 use native.Mathlib.Omega.{arith}

@@ -8,7 +8,7 @@ use lib.Dec.{eqb, leb}
 use native.Mathlib.Omega.{arith}
 use Rattle.theory.specs.Trees.{Row, Tree, capOf}
 use Rattle.theory.specs.Table.{pick, both, mem}
-use Rattle.theory.proofs.Cases.{both-l, both-r, leb-le, le-leb}
+use Rattle.theory.proofs.Cases.{both-l, both-r, leb-le}
 use Rattle.kinds.specs.Strength.{strengthOf, prefixOf}
 use Rattle.grammar.specs.Limits.{Around, isQuery, isExpression, below}
 use Rattle.descent.proofs.Named.{opRow}

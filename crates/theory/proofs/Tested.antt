@@ -3,15 +3,15 @@ use mathlib.Core.Bool.{true, false, Bool}
 use mathlib.Core.List.{List, [], _∷_, _++_}
 use mathlib.Core.Logic.{inl, inr}
 use mathlib.Core.Option.{some, none, Option}
-use mathlib.Core.Path.{_≡_, refl, sym, ap, _∙_, subst}
+use mathlib.Core.Path.{_≡_, refl, sym, _∙_, subst}
 use Prim.Native.Nat.{ℕ, _≤_, _<_, min}
 use lib.Dec.{ltb, eqb, leb, ltb→lt, lt→ltb}
 use native.Mathlib.Omega.{arith}
 use Rattle.theory.specs.Trees.{Tok, Nt, Item, lit, nt, Row, Tree}
 use Rattle.theory.specs.Table.{Line, Come, Table, pick, both, onRow, mem, lookup, asked, enterOf, contOf, nullOf, gram}
 use Rattle.theory.specs.Derives.{Opens, Part, Ok, whole}
-use Rattle.theory.proofs.Machine.{End, Res, idle, go, done, stop, onBool, run}
-use Rattle.theory.proofs.Cases.{onRow-case, pick-case, pick-inv, 0≢1, none≢some, both-l, both-r, both-i, eqb-eq, T-true, eqb-true, leb-le, le-leb}
+use Rattle.theory.proofs.Machine.{End, Res, idle, go, done, stop, run}
+use Rattle.theory.proofs.Cases.{onRow-case, pick-case, pick-inv, 0≢1, none≢some, both-l, both-r, both-i, eqb-eq, T-true, leb-le, le-leb}
 use Rattle.theory.proofs.Laws.{RowOf, enters, continues, Firsts, Suffix, all, more, After, Laws}
 use Rattle.theory.proofs.Sound.{Good, sound-run}
 
