@@ -41,24 +41,20 @@ capped = Expr ∷ IsRight ∷ Name ∷ SecondName ∷ Not ∷ NameRest? ∷ Dots
 abbrev pub starry : List ℕ
 starry = ColRest? ∷ ColDots? ∷ StarOrName ∷ []
 
-abbrev pub pickN : Bool → ℕ → ℕ → ℕ
-pickN true a b = a
-pickN false a b = b
+abbrev pub either : {X : Type 0} → Bool → X → X → X
+either true a b = a
+either false a b = b
 
 -- the least that the end of what stands there leaves
 abbrev pub floorOf : Nt → ℕ
-floorOf B = pickN (eqb (B .of) Expr) (B .least) (pickN (eqb (B .of) Not) 4 (pickN (eqb (B .of) IsRight) 4 99))
+floorOf B = either (eqb (B .of) Expr) (B .least) (either (eqb (B .of) Not) 4 (either (eqb (B .of) IsRight) 4 99))
 
 abbrev pub Caps : Nt → Val → Tree → Type 0
 Caps A v y = mem (A .of) capped ≡ true → (mem (A .of) starry ≡ true → eqb (v .num) NAME-STAR ≡ false) → leb (floorOf A) (capOf y) ≡ true
 
 -- after IS stands what holds 5 or tighter
-abbrev pub pickB : Bool → Bool → Bool → Bool
-pickB true a b = a
-pickB false a b = b
-
 abbrev pub fitsAt : ℕ → ℕ → Bool
-fitsAt D s = pickB (eqb D IsRight) (leb 5 s) true
+fitsAt D s = either (eqb D IsRight) (leb 5 s) true
 
 -- what some classes say of the trees themselves. , b: the expression in it
 abbrev pub CommaTree : Around → Tree → Type 0
@@ -119,14 +115,14 @@ pub record Form (D : ℕ) (c : Around) (n : Nodes) (p : Piece) : Type 0 where
 unfoldable pub reach : ℕ → ℕ → Bool
 reach C D = choose (eqb C Column) (eqb D Column) (mem D exprs)
 
--- how it may stand where more than its strength is asked: it holds as tightly as what was read; it may stand in parentheses; or, where levels
--- count, it is asked for no more than what was read leaves
+-- how it stands where more than its strength is asked. as-tight, spared: nowhere, for no more is asked than what was read holds, and it holds as
+-- tightly; or, where levels count, than what was read leaves (Spare), and it holds that. in-pair: in parentheses
 pub data Deep (r : Row) (c : Around) (x : Tree) (p : Piece) : Type 0 where
   as-tight : leb (r .str) (p .str) ≡ true → Deep r c x p
   in-pair : leb (c .level) LEVELS ≡ true → Form Paren (deeper c) (meaning (value x .nodes)) p → Deep r c x p
   spared : leb 1 (c .level) ≡ true → isExpression r ≡ true → leb (capOf x) (r .cap) ≡ true → leb (r .cap) (p .str) ≡ true → Deep r c x p
 
--- so it is not where levels count: a NOT to the right
+-- where levels count, an expression is asked for no more than its row leaves: it is no NOT to the right
 abbrev pub Spare : ℕ → Row → Around → Type 0
 Spare s r c = leb 1 (c .level) ≡ true → isExpression r ≡ true → leb s (r .cap) ≡ true
 
