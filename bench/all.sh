@@ -1,7 +1,8 @@
 #!/bin/bash
 # Builds the reader and the writer as rt compiles them, runs the vectors, and prints the frames, the deepest
 # stack, the instructions a token, how they grow and what the worst input costs.
-# all.sh [VECTORS [NAME..]]: VECTORS is a folder with commands.txt and room.txt (default: the program replay's data), NAME only these inputs.
+# all.sh [VECTORS [NAME..]]: VECTORS is a folder with commands.txt and room.txt, or a file of such lines (default: the program replay's data); the lines may be
+# calls too (vectors.py; calls.sh runs vectors alone). NAME only these inputs.
 # ORACLE names the crate's program, if it is to be counted beside ours.
 set -e
 H=$(cd "$(dirname "$0")" && pwd); R=$(dirname "$H"); V=${1:-$R/crates/replay/data}; [ $# -gt 0 ] && shift; T=$R/target/bench

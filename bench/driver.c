@@ -1,4 +1,5 @@
-// Drives the compiled reader and writer: vectors FILE | stack FILE [w] | bench FILE ROUNDS [w]; with w it is `write` that is called
+// Drives the compiled reader and writer: vectors FILE | stack FILE [w] | bench FILE ROUNDS [w]; with w it is `write` that is called.
+// Vectors have commands and calls; of a call every lent number is looked at, of the lists that it may not change too, and the guards around each list.
 #include <stdio.h>
 #include <stdlib.h>
 #include <string.h>
@@ -24,6 +25,23 @@ static int parse(FILE *f, u64 *n) { // one line
         kinds[*n] = strtoul(s, &s, 10); texts[*n] = 0; if (*s == '.') texts[*n] = strtoul(s + 1, &s, 10); (*n)++; }
     return 1;
 }
+enum { MOST = 131072, GUARD = 1024, READ = 0xfffffffe, WRITE = 0xfffffffd };
+static u32 lent[5][MOST + 2 * GUARD], wanted[5][MOST + 2 * GUARD];
+static int list(FILE *f, u32 *p, u32 *n) { return fread(n, 4, 1, f) == 1 && *n <= MOST && fread(p, 4, *n, f) == *n; }
+static int call(FILE *f, int lists, Answer *a, u32 *e, u64 *tokens) { // 0 right, 1 another answer, 2 to 6 another number in a list, -1 no vector
+    Slice s[5]; u32 n; memset(a, 0, sizeof *a);
+    for (int l = 0; l < lists; l++) {
+        if (!list(f, lent[l] + GUARD, &n)) return -1; s[l] = (Slice){lent[l] + GUARD, n};
+        for (u32 i = 0; i < GUARD; i++) { lent[l][i] = 0xABC00000u + i; lent[l][GUARD + n + i] = 0xABD00000u + i; }
+        memcpy(wanted[l], lent[l], (n + 2 * GUARD) * 4);
+    }
+    *tokens = s[0].n; if (fread(e, 4, 2, f) != 2) return -1;
+    for (int l = 2; l < lists; l++) if (!list(f, wanted[l] + GUARD, &n) || n > s[l].n) return -1; // the rest is as found
+    if (lists == 3) reader_read(a, s, s + 1, s + 2); else writer_write(a, s, s + 1, s + 2, s + 3, s + 4);
+    if (number(*a) != e[0] || a->place != e[1]) return 1;
+    for (int l = 0; l < lists; l++) if (memcmp(lent[l], wanted[l], (s[l].p - lent[l] + s[l].n + GUARD) * 4)) return 2 + l;
+    return 0;
+}
 #define STACK (1 << 18)
 static char area[STACK] __attribute__((aligned(64)));
 static long painted(u64 nt, u64 nn, Answer *a) {
@@ -44,6 +62,11 @@ int main(int argc, char **argv) {
         u32 x; long bad = 0, all = 0;
         while (fread(&x, 4, 1, f) == 1) {
             u32 nk, nt, e[3]; u32 table = x; static u32 rec[200000];
+            if (x == READ || x == WRITE) { Answer a; u64 n; int wrong = call(f, x == READ ? 3 : 5, &a, e, &n); all++;
+                if (wrong < 0) return 2;
+                if (wrong && bad++ < 10) { printf("case %ld, %s, wrong %d: %lu %lu for %u %u:", all, x == READ ? "read" : "write", wrong, number(a), a.place, e[0], e[1]);
+                    for (u64 i = 0; i < n && i < 60; i++) printf(" %u", lent[0][GUARD + i]); printf("\n"); }
+                continue; }
             if (!fread(&nk, 4, 1, f)) return 2; if (nk && fread(kinds, 4, nk, f) != nk) return 2;
             if (!fread(&nt, 4, 1, f)) return 2; if (nt && fread(texts, 4, nt, f) != nt) return 2;
             if (fread(e, 4, 3, f) != 3) return 2; if (e[2] && fread(rec, 4, e[2], f) != e[2]) return 2;

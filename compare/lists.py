@@ -49,6 +49,8 @@ def short():
 
 
 class Grammar:
+    nots = 0  # how often NOT begins an operand of an operator tighter than it, or a bound
+
     def __init__(self, r):
         self.r, self.out, self.room = r, [], 0
 
@@ -177,33 +179,37 @@ class Grammar:
 
     BINARY = {1: (35,), 2: (34,), 4: (28, 29, 37), 5: (30, 31, 32, 33), 6: (23, 24, 25, 26), 7: (18, 19), 8: (17, 20, 21), 9: (22,)}
 
-    def expr(self, least):
-        """An expression of the strength `least` or more."""
+    def expr(self, least, ends=True, begins=True):
+        """An expression of the strength `least` or more; it may end in a NOT to the right, and begin with one."""
+        if self.nots and ends and begins and 3 < least < 11 and self.may(self.nots):
+            self.put(36)
+            return self.expr(3)
         s = 12 if self.room <= 0 else self.r.choice((1, 2, 3, 4, 4, 4, 5, 6, 7, 8, 9, 10, 11, 12, 12, 12, 12, 12, 12, 12, 12, 12))
         if s < least or s == 12:
             return self.primary()
         if s == 3:
             self.put(36)
-            self.expr(3)
+            self.expr(3, ends)
         elif s == 11:
             self.put(self.r.choice((18, 19, 27)))
             self.expr(11)
         elif s == 10:
-            self.expr(10)
+            self.expr(10, False)
             self.put(43)
             self.name()
         elif s == 4 and self.r.random() < 0.6:
-            self.special()
+            self.special(ends)
         else:
-            self.expr(s)
+            self.expr(s, s < 3)
             k = self.r.choice(self.BINARY[s])
             self.put(k)
-            if k == 37 and self.r.random() < 0.3:
+            negated = k == 37 and self.r.random() < 0.3
+            if negated:
                 self.put(36)
-            self.expr(s + 1)
+            self.expr(s + 1, ends, k != 37 or negated)
 
-    def special(self):
-        self.expr(4)
+    def special(self, ends):
+        self.expr(4, False)
         c = self.r.randrange(5)
         if c == 0:
             self.put(*self.r.choice(((41,), (42,), (36, 11))))
@@ -212,12 +218,12 @@ class Grammar:
             self.put(36)
         if c == 1:
             self.put(40)
-            self.expr(5)
+            self.expr(5, ends)
         elif c == 2:
             self.put(39)
             self.expr(5)
             self.put(34)
-            self.expr(5)
+            self.expr(5, ends)
         else:
             self.put(38, 12)
             if c == 3 and self.room > 0:
@@ -311,6 +317,28 @@ def random_lists(count, seed):
     for n in range(count):
         words = g.command(r.choice((4, 8, 15, 30, 60)))
         yield " ".join(words if n % 3 == 0 else damaged(words, r))
+
+
+def nots(count, seed):
+    """NOT to the right, in 3 to 30 tokens: half by document 01's grammar, half damaged, mostly by a NOT more."""
+    r = random.Random(seed)
+    g = Grammar(r)
+    g.nots = 0.5
+    n = 0
+    while n < count:
+        if r.random() < 0.2:
+            words = g.command(r.choice((8, 15, 25)))
+        else:
+            g.out, g.room = ["52"], r.choice((4, 8, 15, 25))
+            g.expr(r.choice((1, 2, 4, 4, 5, 6, 7, 8, 9)), True, False)
+            words = g.out
+        if n % 2:
+            for _ in range(r.choice((0, 1, 1, 2))):
+                words.insert(r.randint(1, len(words)), "36")
+            words = damaged(words, r) if r.random() < 0.6 else words
+        if "36" in words and 3 <= len(words) <= 30:
+            n += 1
+            yield " ".join(words)
 
 
 # ── deep ones: each way of nesting, mixed, about the limits of both; and long chains
