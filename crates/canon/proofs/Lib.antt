@@ -31,3 +31,4 @@ pub mod Shallow
 pub mod Canonical
 pub mod Calls
 pub mod Needed
+pub mod RightNots
