@@ -1,11 +1,13 @@
 -- Demand 3 of the two calls. writes-equal: two commands that were written mean the same exactly when the outputs are equal token for token.
--- writes-canonical: an output of at most 4,096 tokens and 64 levels is accepted, keeps the meaning and is its own writing. Assumes nothing.
+-- writes-canonical: an output of at most 4,096 tokens and 64 levels is accepted, keeps the meaning and is its own writing. writes-without: where
+-- no NOT stands to the right in the command, the output's levels need no word. Assumes nothing.
 use mathlib.Core.List.{List, [], _∷_, _++_}
 use mathlib.Core.Path.{_≡_, refl, sym, ap, _∙_, subst}
 use Prim.Native.Nat.{ℕ, _≤_}
 use lib.ListN.{length, take, drop}
 use native.Mathlib.Omega.{arith}
 use Rattle.theory.specs.Trees.{Tok, Tree}
+use Rattle.grammar.specs.Grammar.{IsCommand}
 use Rattle.grammar.specs.Sizes.{TOKENS}
 use Rattle.grammar.specs.Nodes.{Nodes}
 use Rattle.grammar.specs.Reading.{reading}
@@ -13,9 +15,10 @@ use Rattle.grammar.specs.Meaning.{meaning}
 use Rattle.grammar.specs.Promise.{tokens, Accepted, recordsOf, Room, accepted, refusal-9, writingOf, put, kindsOf, textsOf, Writes, written, refusal-1w, refusal-2-to-9, refusal-10}
 use Rattle.grammar.proofs.Promised.{one-reading, one-writing}
 use Rattle.grammar.proofs.SamplesHold.{tokens-back, length-kinds, length-texts}
+use Rattle.canon.specs.ToTheRight.{NoneToTheRight}
 use Rattle.canon.specs.Promise.{Shallow, SameWriting}
 use Rattle.canon.specs.Calls.{Means, MeanTheSame, EqualTokens, SameMeaningEqualOutputs, ReadAccepts, CanonicalOutput}
-use Rattle.canon.proofs.Canonical.{one-tree, canonical, equal-writings}
+use Rattle.canon.proofs.Canonical.{one-tree, canonical, equal-writings, shallow-without}
 
 -- ── a command has one meaning ──
 one-command : {K T : List ℕ} {x y : Tree} → Accepted K T x → Accepted K T y → x ≡ y
@@ -96,12 +99,16 @@ pub write-accepts : {K T N A B : List ℕ} {m p : ℕ} {N' A' B' : List ℕ} {x 
 write-accepts {K} {T} {N} {A} {B} {x = x} a r e h w = one-writing K T N A B w (written x e a r h refl refl refl refl refl) .0
 
 -- ── a call to an output ──
+-- the tokens of an output are the writing
+written-tokens : {K T : List ℕ} {p : ℕ} {A B : List ℕ} (o : Output K T p A B) → tokens (take p A) (take p B) ≡ writingOf (o .tree)
+written-tokens {p = p} {B = B} o = ap (λ z. tokens z (take p B)) (o .kinds) ∙ ap (tokens (kindsOf (writingOf (o .tree)))) (o .texts) ∙ tokens-back (writingOf (o .tree))
+
 pub writes-canonical : {K T N A B : List ℕ} {p : ℕ} {N' A' B' : List ℕ} → Writes K T N A B 0 p N' A' B' → p ≤ TOKENS → Shallow (tokens (take p A') (take p B')) → CanonicalOutput K T p A' B'
 writes-canonical {K} {T} {p = p} {A' = A'} {B' = B'} w short shallow =
     let o = output w refl in
     let x = o .tree in
     let n = o .counted in
-    let c = canonical (record { accepted = o .taken; short = subst (λ z. z ≤ TOKENS) n short; shallow = subst Shallow (ap (λ z. tokens z (take p B')) (o .kinds) ∙ ap (tokens (kindsOf (writingOf x))) (o .texts) ∙ tokens-back (writingOf x)) shallow }) in
+    let c = canonical (record { accepted = o .taken; short = subst (λ z. z ≤ TOKENS) n short; shallow = subst Shallow (written-tokens o) shallow }) in
     let again : Accepted (take p A') (take p B') (c .tree) = subst (λ z. Accepted z (take p B') (c .tree)) (sym (o .kinds)) (subst (λ z. Accepted (kindsOf (writingOf x)) z (c .tree)) (sym (o .texts)) (c .accepted)) in
     let same : MeanTheSame K T (take p A') (take p B')
     = (meaning (reading x), record { tree = x; accepted = o .taken; meant = refl }, record { tree = c .tree; accepted = again; meant = c .meaning }) in
@@ -113,3 +120,7 @@ writes-canonical {K} {T} {p = p} {A' = A'} {B' = B'} w short shallow =
       rewritten = λ v r e h. write-accepts again r e (omega (arith, l, h)) v;
       own = λ v. outputs-equal o (output v refl) .0 same;
     }
+
+pub writes-without : {K T N A B : List ℕ} {p : ℕ} {N' A' B' : List ℕ} → Writes K T N A B 0 p N' A' B' → p ≤ TOKENS → ((x : Tree) → IsCommand (tokens K T) x → NoneToTheRight x) → CanonicalOutput K T p A' B'
+writes-without w short none = let o = output w refl in
+    writes-canonical w short (subst Shallow (sym (written-tokens o)) (shallow-without (o .taken) (none (o .tree) (o .taken .derived))))
