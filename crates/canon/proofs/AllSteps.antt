@@ -71,41 +71,41 @@ lister C k r a b d e n o w s m = record {
 }
 
 names-lister : Lister Names? (COMMA ∷ []) (part row-next-name (nt (any Name) ∷ []))
-unfolding open-tests members nullOf optional sql lines butColumn butIs exprs selectItems valuesItems headsOf tailsOf lookup
+unfolding open-tests members nullOf optional sql lines butColumn exprs selectItems valuesItems headsOf tailsOf lookup
 names-lister = lister Names? COMMA (part row-next-name (nt (any Name) ∷ [])) refl refl refl refl refl refl (λ x. tt) next-name-says (λ c l l' t t' f f' m. tt)
 
 exprs-lister : Lister Exprs? (COMMA ∷ []) (part row-next-expr (nt (E 1) ∷ []))
-unfolding open-tests members nullOf optional sql lines butColumn butIs exprs selectItems valuesItems headsOf tailsOf lookup
+unfolding open-tests members nullOf optional sql lines butColumn exprs selectItems valuesItems headsOf tailsOf lookup
 exprs-lister = lister Exprs? COMMA (part row-next-expr (nt (E 1) ∷ [])) refl refl refl refl refl refl (λ x. tt) next-expr-says (λ c l l' t t' f f' m. ap (λ z. z + 1) m)
 
 terms-lister : Lister Terms? (COMMA ∷ []) (part row-next-term (nt (E 1) ∷ nt (any Way?) ∷ nt (any Nulls?) ∷ []))
-unfolding open-tests members nullOf optional sql lines butColumn butIs exprs selectItems valuesItems headsOf tailsOf lookup
+unfolding open-tests members nullOf optional sql lines butColumn exprs selectItems valuesItems headsOf tailsOf lookup
 terms-lister = lister Terms? COMMA (part row-next-term (nt (E 1) ∷ nt (any Way?) ∷ nt (any Nulls?) ∷ [])) refl refl refl refl refl refl (λ x. tt) next-term-says (λ c l l' t t' f f' m. tt)
 
 columns-lister : Lister Columns? (COMMA ∷ []) (part row-next-column (nt (any Column) ∷ []))
-unfolding open-tests members nullOf optional sql lines butColumn butIs exprs selectItems valuesItems headsOf tailsOf lookup
+unfolding open-tests members nullOf optional sql lines butColumn exprs selectItems valuesItems headsOf tailsOf lookup
 columns-lister = lister Columns? COMMA (part row-next-column (nt (any Column) ∷ [])) refl refl refl refl refl refl (λ x. tt) next-column-says (λ c l l' t t' f f' m. tt)
 
 comma-join-lister : Lister Joins? (COMMA ∷ []) (part row-comma-join (nt (any Source) ∷ nt (any On?) ∷ []))
-unfolding open-tests members nullOf optional sql lines butColumn butIs exprs selectItems valuesItems headsOf tailsOf lookup
+unfolding open-tests members nullOf optional sql lines butColumn exprs selectItems valuesItems headsOf tailsOf lookup
 comma-join-lister = lister Joins? COMMA (part row-comma-join (nt (any Source) ∷ nt (any On?) ∷ [])) refl refl refl refl refl refl (λ x. tt) comma-join-says (λ c l l' t t' f f' m. tt)
 
 join-lister : Lister Joins? (JOIN ∷ []) (part row-join (nt (any Source) ∷ nt (any On?) ∷ []))
-unfolding open-tests members nullOf optional sql lines butColumn butIs exprs selectItems valuesItems headsOf tailsOf lookup
+unfolding open-tests members nullOf optional sql lines butColumn exprs selectItems valuesItems headsOf tailsOf lookup
 join-lister = lister Joins? JOIN (part row-join (nt (any Source) ∷ nt (any On?) ∷ [])) refl refl refl refl refl refl (λ x. tt) join-says (λ c l l' t t' f f' m. tt)
 
 whens-lister : Lister Whens? (WHEN ∷ []) (part row-next-when (nt (E 1) ∷ lit THEN ∷ nt (E 1) ∷ []))
-unfolding open-tests members nullOf optional sql lines butColumn butIs exprs selectItems valuesItems headsOf tailsOf lookup
+unfolding open-tests members nullOf optional sql lines butColumn exprs selectItems valuesItems headsOf tailsOf lookup
 whens-lister = lister Whens? WHEN (part row-next-when (nt (E 1) ∷ lit THEN ∷ nt (E 1) ∷ [])) refl refl refl refl refl refl (λ x. tt) next-when-says (λ c l l' t t' f f' m. tt)
 
 -- NOT begins an expression but after IS, where it holds too loosely
 not-after-is : (D : ℕ) → mem D exprs ≡ true → fitsAt D 3 ≡ true → mem D butIs ≡ true
-unfolding exprs butIs mem pick
+unfolding exprs mem pick
 not-after-is D m = by-mem (λ D. fitsAt D 3 ≡ true → mem D butIs ≡ true) exprs
     ((λ w. refl), ((λ w. refl), ((λ w. refl), ((λ w. refl), ((λ w. refl), ((λ w. refl), ((λ w. w), tt))))))) D m
 
 butIs-among : (D : ℕ) → mem D butIs ≡ true → mem D exprs ≡ true
-unfolding exprs butIs mem pick
+unfolding exprs mem pick
 butIs-among D m = by-mem (λ D. mem D exprs ≡ true) butIs (refl, (refl, (refl, (refl, (refl, (refl, tt)))))) D m
 
 pub all-heads : AllLines HeadStep (sql .heads)

@@ -17,7 +17,7 @@ use Rattle.theory.proofs.Laws.{row-of, Suffix, all, more, part-suffix}
 use Rattle.theory.proofs.Tested.{Rows, Kinds, allb, rows-ok, kinds-ok, found, enter-found, cont-found, row-least, tight-ok}
 use Rattle.kinds.specs.Kinds.{NOT}
 use Rattle.kinds.specs.Strength.{prefixOf}
-use Rattle.grammar.specs.Rows.{butColumn, butIs, exprs, selectItems, valuesItems, lines, headsOf, tailsOf}
+use Rattle.grammar.specs.Rows.{butColumn, exprs, selectItems, valuesItems, lines, headsOf, tailsOf}
 use Rattle.grammar.specs.Grammar.{sql, G}
 use Rattle.grammar.specs.Limits.{Around, isExpression, judge}
 use Rattle.grammar.specs.Reading.{choose}
@@ -54,11 +54,11 @@ unfoldable sound : Row → Bool
 sound r = both (leb (r .str) 12) (properItems (r .items))
 
 heads-sound : allb (λ e. sound (e .row)) (sql .heads) ≡ true
-unfolding sound properItems proper choose sql lines butColumn butIs exprs selectItems valuesItems headsOf tailsOf pick both allb
+unfolding sound properItems proper choose sql lines butColumn exprs selectItems valuesItems headsOf tailsOf pick both allb
 heads-sound = refl
 
 tails-sound : allb (λ e. sound (e .row)) (sql .tails) ≡ true
-unfolding sound properItems proper choose sql lines butColumn butIs exprs selectItems valuesItems headsOf tailsOf pick both allb
+unfolding sound properItems proper choose sql lines butColumn exprs selectItems valuesItems headsOf tailsOf pick both allb
 tails-sound = refl
 
 row-sound : (C k : ℕ) (r : Row) (es : List Line) → allb (λ e. sound (e .row)) es ≡ true → lookup C k es ≡ some r → sound r ≡ true
@@ -98,11 +98,11 @@ tight-enough A k r pr e h = fits-more (A .of) (A .least) (r .left) (le-leb (A .l
 -- ── a NOT to the right ──
 -- a row leaves all that is asked of an expression, or it is NOT's
 heads-leave : allb (Kinds (λ C k r. pick (leb 12 (r .cap)) true (λ w. pick (isExpression r) (both (eqb k NOT) (leb (prefixOf NOT) (r .cap))) (λ w. true)))) (sql .heads) ≡ true
-unfolding sql lines butColumn butIs exprs selectItems valuesItems headsOf tailsOf pick both allb prefixOf
+unfolding sql lines butColumn exprs selectItems valuesItems headsOf tailsOf pick both allb prefixOf
 heads-leave = refl
 
 tails-leave : allb (Rows (λ C r. leb 12 (r .cap))) (sql .tails) ≡ true
-unfolding sql lines butColumn butIs exprs selectItems valuesItems headsOf tailsOf pick both allb
+unfolding sql lines butColumn exprs selectItems valuesItems headsOf tailsOf pick both allb
 tails-leave = refl
 
 -- the strength asked is that of the item

@@ -17,7 +17,7 @@ use Rattle.kinds.specs.Kinds.{ID, KWID, INDEXED, JOIN-KW}
 use Rattle.kinds.specs.Classes.{names}
 use Rattle.grammar.specs.Classes.{Expr, Paren, Column, Inside?, ColRest?, ColDots?, Base?, Args?, NameRest?, Dots?, any, IsRight}
 use Rattle.grammar.specs.RowNames.{row-names}
-use Rattle.grammar.specs.Rows.{strong, butColumn, butIs, exprs, selectItems, valuesItems, lines, headsOf, tailsOf}
+use Rattle.grammar.specs.Rows.{strong, butColumn, exprs, selectItems, valuesItems, lines, headsOf, tailsOf}
 use Rattle.grammar.specs.Grammar.{sql, G}
 use Rattle.grammar.specs.Limits.{Around, begun, judge}
 use Rattle.grammar.specs.Reading.{Val, empty, one, says, choose, NAME-STAR, valueOf, value, values}
@@ -137,7 +137,7 @@ unfolding mem pick
 indexed-names k m = by-mem (λ k. mem k names ≡ true) (INDEXED ∷ []) (refl, tt) k m
 
 call-found : (D : ℕ) → mem D exprs ≡ true → (k : ℕ) → mem k callKinds ≡ true → lookup D (plainKind k) (sql .heads) ≡ some (namesRow (besides NameRest? ColRest? D))
-unfolding sql lines butColumn butIs exprs selectItems valuesItems headsOf tailsOf pick both mem lookup plainKind choose
+unfolding sql lines butColumn exprs selectItems valuesItems headsOf tailsOf pick both mem lookup plainKind choose
 call-found D d k m = by-mem (λ D. lookup D (plainKind k) (sql .heads) ≡ some (namesRow (besides NameRest? ColRest? D))) exprs
     (at-k Expr (refl, (refl, (refl, tt))) also at-k Base? (refl, (refl, (refl, tt))) also at-k Paren (refl, (refl, (refl, tt))) also at-k Inside? (refl, (refl, (refl, tt)))
     also at-k Args? (refl, (refl, (refl, tt))) also at-k Column (refl, (refl, (refl, tt))) also at-k IsRight (refl, (refl, (refl, tt))) also tt) D d
@@ -146,7 +146,7 @@ call-found D d k m = by-mem (λ D. lookup D (plainKind k) (sql .heads) ≡ some 
     at-k D all = by-mem (λ k. lookup D (plainKind k) (sql .heads) ≡ some (namesRow (besides NameRest? ColRest? D))) callKinds all k m
 
 indexed-found : (D : ℕ) → mem D exprs ≡ true → (k : ℕ) → mem k (INDEXED ∷ []) ≡ true → lookup D (plainKind k) (sql .heads) ≡ some (namesRow (besides Dots? ColDots? D))
-unfolding sql lines butColumn butIs exprs selectItems valuesItems headsOf tailsOf pick both mem lookup plainKind choose
+unfolding sql lines butColumn exprs selectItems valuesItems headsOf tailsOf pick both mem lookup plainKind choose
 indexed-found D d k m = by-mem (λ k. lookup D (plainKind k) (sql .heads) ≡ some (namesRow (besides Dots? ColDots? D))) (INDEXED ∷ [])
     (by-mem (λ D. lookup D INDEXED (sql .heads) ≡ some (namesRow (besides Dots? ColDots? D))) exprs (refl, (refl, (refl, (refl, (refl, (refl, (refl, tt))))))) D d, tt) k m
 

@@ -22,7 +22,7 @@ use Rattle.grammar.specs.Classes.{Source, Joins?, Word2?, Word3?, On?, any}
 use Rattle.grammar.specs.RowNames.{row-join, row-word-join, row-word}
 use Rattle.grammar.specs.NodeNames.{node-join}
 use Rattle.grammar.specs.Nodes.{Nodes, end, mk, beside}
-use Rattle.grammar.specs.Rows.{part, butColumn, butIs, exprs, selectItems, valuesItems, lines, headsOf, tailsOf, optional}
+use Rattle.grammar.specs.Rows.{part, butColumn, exprs, selectItems, valuesItems, lines, headsOf, tailsOf, optional}
 use Rattle.grammar.specs.Grammar.{sql, G}
 use Rattle.grammar.specs.Limits.{Around, furtherFlags, isKind, begun, judge}
 use Rattle.grammar.specs.Reading.{Val, says, choose, opt, _#_, rules, ruled, valueOf, value, values}
@@ -120,7 +120,7 @@ unfolding toks joinWords furtherFlags value faultsIn mem pick
 no-second c = record { z = nil; stands = gone (null-word Word2? refl); clean = tt; fit = tt; writes = refl; further = refl; num = refl }
 
 word2-found : Finds word2Line (sql .heads)
-unfolding sql lines butColumn butIs exprs selectItems valuesItems headsOf tailsOf pick both mem lookup
+unfolding sql lines butColumn exprs selectItems valuesItems headsOf tailsOf pick both mem lookup
 word2-found = found-one Word2? (JOIN-KW ∷ []) wordRow2 (sql .heads) (refl, tt)
 
 second : (w : ℕ) (c : Around) → isWord w ≡ true → Second (w ∷ []) c
@@ -171,11 +171,11 @@ unfolding joinOf choose
 join-detail f = let e : (64 + f) - 64 ≡ f = omega arith in let n : 64 + f ≡ 0 → ⊥ = λ h. omega arith in rw (ne-eqb (64 + f) 0 n, e)
 
 join-found : (lookup Joins? JOIN (sql .heads) ≡ some joinRow) × (lookup Joins? JOIN (sql .tails) ≡ some joinRow)
-unfolding sql lines butColumn butIs exprs selectItems valuesItems headsOf tailsOf pick both mem lookup
+unfolding sql lines butColumn exprs selectItems valuesItems headsOf tailsOf pick both mem lookup
 join-found = (refl, refl)
 
 word-join-found : (lookup Joins? JOIN-KW (sql .heads) ≡ some wordJoin) × (lookup Joins? JOIN-KW (sql .tails) ≡ some wordJoin)
-unfolding sql lines butColumn butIs exprs selectItems valuesItems headsOf tailsOf pick both mem lookup
+unfolding sql lines butColumn exprs selectItems valuesItems headsOf tailsOf pick both mem lookup
 word-join-found = (refl, refl)
 
 -- the node of a join of detail d

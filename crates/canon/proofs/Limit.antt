@@ -14,7 +14,7 @@ use Rattle.kinds.specs.Kinds.{COMMA, LIMIT, OFFSET}
 use Rattle.grammar.specs.Classes.{Limit?, Offset?, E, any}
 use Rattle.grammar.specs.RowNames.{row-limit, row-offset, row-comma-offset}
 use Rattle.grammar.specs.Nodes.{Nodes, end, beside}
-use Rattle.grammar.specs.Rows.{part, butColumn, butIs, exprs, selectItems, valuesItems, lines, headsOf, tailsOf}
+use Rattle.grammar.specs.Rows.{part, butColumn, exprs, selectItems, valuesItems, lines, headsOf, tailsOf}
 use Rattle.grammar.specs.Grammar.{sql}
 use Rattle.grammar.specs.Limits.{Around, begun, judge}
 use Rattle.grammar.specs.Reading.{Val, empty, says, choose, isEnd, opt, _#_, limitAndOffset, rules, ruled, valueOf, value, values}
@@ -50,7 +50,7 @@ unfolding open-tests value valueOf
 offset-step = head-step offsetLine refl ((refl, λ c t u ks m f. inl refl, offset-says, λ t f. tt), tt)
 
 offset-found : Finds offsetLine (sql .heads)
-unfolding sql lines butColumn butIs exprs selectItems valuesItems headsOf tailsOf pick both mem lookup
+unfolding sql lines butColumn exprs selectItems valuesItems headsOf tailsOf pick both mem lookup
 offset-found = found-one Offset? (OFFSET ∷ []) offsetRow (sql .heads) (refl, tt)
 
 offset-pack : (c : Around) (x : Tree) (k : Kid (E 1) c x) (t : Tok) → Clean (node commaRow nil t (add nil x)) c → Pack (any Offset?) c (node offsetRow nil (tok OFFSET) (add nil x))
@@ -108,7 +108,7 @@ swapped-says v v1 z y t X Z e =
     limited _ _ _ (Z .p) (X .p) (simp (e, flat, X .single, Z .single)) (m ∙ ap (λ n. meaning (beside (value z .nodes) (beside n end))) (sym o)) (simp (X .toks, X .tight, X .solid, Z .toks, Z .tight, Z .solid))
 
 limit-found : Finds (record { of = Limit? ∷ []; at = LIMIT ∷ []; row = limitRow }) (sql .heads)
-unfolding sql lines butColumn butIs exprs selectItems valuesItems headsOf tailsOf pick both mem lookup
+unfolding sql lines butColumn exprs selectItems valuesItems headsOf tailsOf pick both mem lookup
 limit-found = found-one Limit? (LIMIT ∷ []) limitRow (sql .heads) (refl, tt)
 
 abbrev limitLine : Line

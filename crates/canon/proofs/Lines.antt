@@ -10,7 +10,7 @@ use Rattle.theory.specs.Trees.{Row}
 use Rattle.theory.specs.Table.{Line, pick, both, mem, lookup}
 use Rattle.theory.proofs.Cases.{by-bool, pick-inv, 0≢1, none≢some, both-l, both-r, both-i, eqb-eq}
 use Rattle.theory.proofs.Tested.{allb, Kinds, isNone, hiding}
-use Rattle.grammar.specs.Rows.{butColumn, butIs, exprs, selectItems, valuesItems, lines, headsOf, tailsOf}
+use Rattle.grammar.specs.Rows.{butColumn, exprs, selectItems, valuesItems, lines, headsOf, tailsOf}
 use Rattle.grammar.specs.Grammar.{sql}
 
 abbrev pub AllLines : (Line → Type 0) → List Line → Type 0
@@ -59,9 +59,9 @@ by-line Q (e ∷ es) h all C k r l =
     (λ b x. let f = by-line Q es (n .1) (all .1) C k r x in (f .0, f .1, f .2, f .3, f .4, finds-later (f .0) e es (n .0) (f .5)))
 
 pub heads-apart : hiding (sql .heads) ≡ []
-unfolding sql lines butColumn butIs exprs selectItems valuesItems headsOf tailsOf pick both allb mem lookup isNone hiding
+unfolding sql lines butColumn exprs selectItems valuesItems headsOf tailsOf pick both allb mem lookup isNone hiding
 heads-apart = refl
 
 pub tails-apart : hiding (sql .tails) ≡ []
-unfolding sql lines butColumn butIs exprs selectItems valuesItems headsOf tailsOf pick both allb mem lookup isNone hiding
+unfolding sql lines butColumn exprs selectItems valuesItems headsOf tailsOf pick both allb mem lookup isNone hiding
 tails-apart = refl

@@ -16,7 +16,7 @@ use Rattle.kinds.specs.Kinds.{LP, RP, DOT, STAR}
 use Rattle.kinds.specs.Classes.{names}
 use Rattle.grammar.specs.Classes.{StarOrName, SecondName, ColRest?, ColDots?, Dot?, Args?, NameRest?, Dots?, any}
 use Rattle.grammar.specs.RowNames.{row-dot, row-dot-star, row-second-name, row-call}
-use Rattle.grammar.specs.Rows.{part, ending, butColumn, butIs, exprs, selectItems, valuesItems, lines, headsOf, tailsOf}
+use Rattle.grammar.specs.Rows.{part, ending, butColumn, exprs, selectItems, valuesItems, lines, headsOf, tailsOf}
 use Rattle.grammar.specs.Grammar.{sql}
 use Rattle.grammar.specs.Limits.{Around, begun, judge}
 use Rattle.grammar.specs.Reading.{empty, _#_, NAME-STAR, rules, ruled, valueOf, value, values}
@@ -60,7 +60,7 @@ abbrev secondLine : Line
 secondLine = record { of = StarOrName ∷ SecondName ∷ []; at = names; row = secondRow }
 
 second-found : Finds secondLine (sql .heads)
-unfolding sql lines butColumn butIs exprs selectItems valuesItems headsOf tailsOf pick both mem lookup
+unfolding sql lines butColumn exprs selectItems valuesItems headsOf tailsOf pick both mem lookup
 second-found D k m n = by-mem (λ D. lookup D k (sql .heads) ≡ some secondRow) (StarOrName ∷ SecondName ∷ []) (at-names StarOrName (refl, (refl, (refl, (refl, (refl, tt))))) also at-names SecondName (refl, (refl, (refl, (refl, (refl, tt))))) also tt) D m
   where
     at-names : (D : ℕ) → AllOf (λ k. lookup D k (sql .heads) ≡ some secondRow) names → lookup D k (sql .heads) ≡ some secondRow
@@ -162,7 +162,7 @@ dot-name-pack C s e m f c t n h k b more = let S = said (below dotNameRow c) (do
     (more (node dotNameRow nil (a .0) (regrow (below dotNameRow c) (dotNameRow .items) k nil)))
 
 dot-found : (C : ℕ) → mem C (ColRest? ∷ ColDots? ∷ []) ≡ true → lookup C DOT (sql .heads) ≡ some dotStarRow
-unfolding sql lines butColumn butIs exprs selectItems valuesItems headsOf tailsOf pick both mem lookup
+unfolding sql lines butColumn exprs selectItems valuesItems headsOf tailsOf pick both mem lookup
 dot-found C m = by-mem (λ C. lookup C DOT (sql .heads) ≡ some dotStarRow) (ColRest? ∷ ColDots? ∷ []) (refl, (refl, tt)) C m
 
 pub dot-name-step : HeadStep dotNameLine

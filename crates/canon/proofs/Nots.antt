@@ -15,7 +15,7 @@ use Rattle.grammar.specs.Classes.{Not, Inside?, E, any}
 use Rattle.grammar.specs.RowNames.{row-not, row-not-like, row-not-in, row-not-between, row-not-null, row-null-test}
 use Rattle.grammar.specs.NodeNames.{node-list, node-binary, node-null-test, node-in-list, node-in-query, node-between}
 use Rattle.grammar.specs.Nodes.{end, mk, beside}
-use Rattle.grammar.specs.Rows.{part, strong, butColumn, butIs, exprs, selectItems, valuesItems, lines, headsOf, tailsOf}
+use Rattle.grammar.specs.Rows.{part, strong, butColumn, exprs, selectItems, valuesItems, lines, headsOf, tailsOf}
 use Rattle.grammar.specs.Grammar.{sql}
 use Rattle.grammar.specs.Limits.{Around, isQuery}
 use Rattle.grammar.specs.Reading.{Val, empty, one, inside, valueOf, value, values}
@@ -137,7 +137,7 @@ unfolding open-flat
 null-value v v1 t e = rw (eqb-eq (v1 .row) row-not-null e)
 
 null-found : Finds (record { of = exprs; at = NOTNULL ∷ []; row = nullTestRow }) (sql .tails)
-unfolding sql lines butColumn butIs exprs selectItems valuesItems headsOf tailsOf pick both mem lookup
+unfolding sql lines butColumn exprs selectItems valuesItems headsOf tailsOf pick both mem lookup
 null-found D k m n = subst (λ z. lookup D z (sql .tails) ≡ some nullTestRow) (sym (only k NOTNULL n))
     (by-mem (λ C. lookup C NOTNULL (sql .tails) ≡ some nullTestRow) exprs (refl, (refl, (refl, (refl, (refl, (refl, (refl, tt))))))) D m)
 

@@ -20,7 +20,7 @@ use Rattle.kinds.specs.Fit.{fitText, fits}
 use Rattle.grammar.specs.Classes.{Paren, Rows, Column, StarOrName, SecondName, Exprs?, Offset?, ColRest?, ColDots?, Word2?, Word3?, NameRest?, Dots?, any, IsRight, Expr, Not}
 use Rattle.grammar.specs.RowNames.{row-parens}
 use Rattle.grammar.specs.Nodes.{Nodes, end, mk}
-use Rattle.grammar.specs.Rows.{strong, butColumn, butIs, exprs, selectItems, valuesItems, lines, headsOf, optional}
+use Rattle.grammar.specs.Rows.{strong, butColumn, exprs, selectItems, valuesItems, lines, headsOf, optional}
 use Rattle.grammar.specs.Grammar.{bare, sql, G}
 use Rattle.grammar.specs.Sizes.{LEVELS}
 use Rattle.grammar.specs.Limits.{Around, isQuery, isExpression, furtherFlags, begun, judge}
@@ -55,7 +55,7 @@ abbrev pub parens : Tree → Tree
 parens y = node parensRow nil (bare LP) (add (add nil y) (leaf (bare RP)))
 
 parens-found : (D : ℕ) → mem D exprs ≡ true → lookup D LP (sql .heads) ≡ some parensRow
-unfolding sql lines butColumn butIs exprs selectItems valuesItems headsOf pick both mem lookup
+unfolding sql lines butColumn exprs selectItems valuesItems headsOf pick both mem lookup
 parens-found D m = by-mem (λ C. lookup C LP (sql .heads) ≡ some parensRow) exprs (refl, (refl, (refl, (refl, (refl, (refl, (refl, tt))))))) D m
 
 parens-ok : (D s : ℕ) (q : Row) (y : Tree) → mem D exprs ≡ true → leb s 12 ≡ true → Ok G (any Paren) q y → Ok G (record { of = D; least = s }) parensRow (parens y)

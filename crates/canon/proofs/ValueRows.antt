@@ -18,7 +18,7 @@ use Rattle.kinds.specs.Fit.{fitText, fits}
 use Rattle.grammar.specs.Classes.{Rows, Exprs?, E, any}
 use Rattle.grammar.specs.RowNames.{row-first-row, row-next-row}
 use Rattle.grammar.specs.NodeNames.{node-list}
-use Rattle.grammar.specs.Rows.{part, butColumn, butIs, exprs, selectItems, valuesItems, lines, headsOf, tailsOf, optional}
+use Rattle.grammar.specs.Rows.{part, butColumn, exprs, selectItems, valuesItems, lines, headsOf, tailsOf, optional}
 use Rattle.grammar.specs.Grammar.{bare, sql, G}
 use Rattle.grammar.specs.Limits.{Around, members, lastChild, childrenBefore, width, widthOf, isKind, begun, judge}
 use Rattle.grammar.specs.Reading.{Val, empty, valueOf, value}
@@ -115,7 +115,7 @@ next-clean c l t u u' e es i j z b s x s' y h =
     all-app (faultsIn Around under judge l c 0) (judge c nextRow l t nil ∷ faultsKids Around under judge (add f3 (leaf u')) c nextRow l t) z (begun-judge c l t b, k4)
 
 next-found : (k : ℕ) → mem k (COMMA ∷ []) ≡ true → lookup Rows k (sql .tails) ≡ some nextRow
-unfolding sql lines butColumn butIs exprs selectItems valuesItems headsOf tailsOf pick both mem lookup
+unfolding sql lines butColumn exprs selectItems valuesItems headsOf tailsOf pick both mem lookup
 next-found k m = by-mem (λ k. lookup Rows k (sql .tails) ≡ some nextRow) (COMMA ∷ []) (refl, tt) k m
 
 no-rows : G .nullable (any Rows) ≡ true → ⊥

@@ -14,7 +14,7 @@ use Rattle.kinds.specs.Kinds.{ID, KWID, STRING, SEMI, AS, ALL, ASC}
 use Rattle.kinds.specs.Classes.{names}
 use Rattle.grammar.specs.Classes.{Name, Semi?, Way?, Distinct?, Alias?, any}
 use Rattle.grammar.specs.RowNames.{row-semi, row-asc, row-all, row-source-as, row-source-bare}
-use Rattle.grammar.specs.Rows.{part, butColumn, butIs, exprs, selectItems, valuesItems, lines, headsOf, tailsOf, optional}
+use Rattle.grammar.specs.Rows.{part, butColumn, exprs, selectItems, valuesItems, lines, headsOf, tailsOf, optional}
 use Rattle.grammar.specs.Grammar.{sql, G}
 use Rattle.grammar.specs.Limits.{Around, begun, judge}
 use Rattle.grammar.specs.Reading.{Val, empty, says, choose, valueOf, value, values}
@@ -71,7 +71,7 @@ pub found-one : (C : ℕ) (ks : List ℕ) (r : Row) (es : List Line) → AllOf (
 found-one C ks r es all D k m n = subst (λ X. lookup X k es ≡ some r) (only-class C D m) (one-of C k r es ks all n)
 
 name-found : Finds nameLine (sql .heads)
-unfolding sql lines butColumn butIs exprs selectItems valuesItems headsOf tailsOf pick both mem lookup
+unfolding sql lines butColumn exprs selectItems valuesItems headsOf tailsOf pick both mem lookup
 name-found = found-one Name names nameRow (sql .heads) (refl, (refl, (refl, (refl, (refl, tt)))))
 
 pub name-kid : (c : Around) (t : Tok) → mem (t .kind) names ≡ true → Fit t → Kid (any Name) c (node nameRow nil t nil)
@@ -90,7 +90,7 @@ unfolding open-tests
 source-as-step = head-step sourceAsLine refl ((refl, λ c t u ks m f. tt, source-as-says, λ t f. tt), tt)
 
 source-as-found : Finds sourceAsLine (sql .heads)
-unfolding sql lines butColumn butIs exprs selectItems valuesItems headsOf tailsOf pick both mem lookup
+unfolding sql lines butColumn exprs selectItems valuesItems headsOf tailsOf pick both mem lookup
 source-as-found = found-one Alias? (AS ∷ []) sourceAs (sql .heads) (refl, tt)
 
 abbrev sourceBare : Row

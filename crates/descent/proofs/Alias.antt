@@ -13,7 +13,7 @@ use Rattle.kinds.specs.Kinds.{ID, KWID, STRING, AS}
 use Rattle.kinds.specs.Classes.{isBareAlias}
 use Rattle.grammar.specs.Classes.{Name, Alias?, any}
 use Rattle.grammar.specs.RowNames.{row-source-as, row-source-bare}
-use Rattle.grammar.specs.Rows.{part, butColumn, butIs, exprs, selectItems, valuesItems, lines, headsOf, tailsOf}
+use Rattle.grammar.specs.Rows.{part, butColumn, exprs, selectItems, valuesItems, lines, headsOf, tailsOf}
 use Rattle.grammar.specs.Grammar.{sql}
 use Rattle.grammar.specs.Limits.{Around, isQuery, below}
 use Rattle.grammar.specs.Nodes.{count, records}
@@ -38,7 +38,7 @@ abbrev bareRow : Row
 bareRow = part row-source-bare []
 
 bare-kinds : allb (λ k. eqFound (enterOf sql (any Alias?) k) (some bareRow)) (ID ∷ KWID ∷ STRING ∷ []) ≡ true
-unfolding sql lines butColumn butIs exprs selectItems valuesItems headsOf tailsOf pick both allb mem lookup asked enterOf onRow eqFound eqRow eqItems eqItem eqNt
+unfolding sql lines butColumn exprs selectItems valuesItems headsOf tailsOf pick both allb mem lookup asked enterOf onRow eqFound eqRow eqItems eqItem eqNt
 bare-kinds = refl
 
 bare-in : (k : ℕ) → isBareAlias k ≡ true → enterOf sql (any Alias?) k ≡ some bareRow

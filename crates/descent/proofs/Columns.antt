@@ -18,7 +18,7 @@ use Rattle.kinds.specs.Classes.{isBareAlias}
 use Rattle.grammar.specs.Classes.{Name, Column, Columns?, any}
 use Rattle.grammar.specs.RowNames.{row-star, row-as, row-bare}
 use Rattle.grammar.specs.NodeNames.{node-star, node-column}
-use Rattle.grammar.specs.Rows.{begins, goes, part, once, butColumn, butIs, exprs, selectItems, valuesItems, lines, headsOf, tailsOf}
+use Rattle.grammar.specs.Rows.{begins, goes, part, once, butColumn, exprs, selectItems, valuesItems, lines, headsOf, tailsOf}
 use Rattle.grammar.specs.Grammar.{sql}
 use Rattle.grammar.specs.Limits.{Around, isQuery, below, judge}
 use Rattle.grammar.specs.Nodes.{count, Rec, rec, records}
@@ -57,14 +57,14 @@ takes-column : Takes (any Column) 0
 takes-column = record { among = column-among; enough = λ k a b. omega arith; loose = λ k a b. absurd (omega (arith, b)); column = λ e. refl; other = λ a e. omega (arith, a); most = omega arith }
 
 as-at : lookup Column AS (sql .tails) ≡ some asRow
-unfolding sql lines butColumn butIs exprs selectItems valuesItems headsOf tailsOf pick both mem lookup
+unfolding sql lines butColumn exprs selectItems valuesItems headsOf tailsOf pick both mem lookup
 as-at = refl
 
 aliasTest : ℕ → Bool
 aliasTest k = pick (eqb k AS) true (λ w. pick (isBareAlias k) (eqFound (lookup Column k (sql .tails)) (some bareRow)) (λ w. notB (mem k (others Column))))
 
 aliases-right : below? BOUND aliasTest ≡ true
-unfolding aliasTest below? others notB isBareAlias eqFound eqRow eqItems eqItem eqNt sql lines butColumn butIs exprs selectItems valuesItems headsOf tailsOf pick both mem lookup
+unfolding aliasTest below? others notB isBareAlias eqFound eqRow eqItems eqItem eqNt sql lines butColumn exprs selectItems valuesItems headsOf tailsOf pick both mem lookup
 aliases-right = refl
 
 bare-at : (k : ℕ) → k < BOUND → eqb k AS ≡ false → isBareAlias k ≡ true → lookup Column k (sql .tails) ≡ some bareRow
@@ -190,7 +190,7 @@ module _ (K T : List ℕ) (good : Good K T) (c : Around) where
 
 -- ── the list of columns ──
 columns-list : ListClass Columns? COMMA nextColumn
-unfolding sql lines butColumn butIs exprs selectItems valuesItems headsOf tailsOf pick both mem lookup kindsOf isQuery
+unfolding sql lines butColumn exprs selectItems valuesItems headsOf tailsOf pick both mem lookup kindsOf isQuery
 columns-list = record { begins = Columns-at-COMMA; only = firsts-Columns; goes = refl; goes-only = refl; may = Columns-may; weak = refl; loose = refl; no-query = refl }
 
 columns-rule : ListRule nextColumn (any Column) column

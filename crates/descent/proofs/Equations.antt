@@ -17,7 +17,7 @@ use Rattle.theory.proofs.Cases.{by-bool, 0≢1}
 use Rattle.theory.proofs.Tested.{notb, allb, asked-none, not-found, found}
 use Rattle.theory.proofs.Descend.{onGot, check, rest, call, rest-nt, rest-lit, rest-lit-end, rest-end, rest-end-end}
 use Rattle.grammar.specs.Grammar.{sql, G}
-use Rattle.grammar.specs.Rows.{butColumn, butIs, exprs, selectItems, valuesItems, lines, headsOf, tailsOf}
+use Rattle.grammar.specs.Rows.{butColumn, exprs, selectItems, valuesItems, lines, headsOf, tailsOf}
 use Rattle.grammar.specs.Limits.{Around, below, under, judge}
 use Rattle.grammar.specs.Promise.{tokens}
 use Rattle.descent.proofs.Places.{kindAt, tokAt, from, wrong, Sound, OpenRow, calls, rests}
@@ -50,11 +50,11 @@ kind-end K n h = List·getD-eq-default K 0 h
 
 -- no line has the end's kind
 endless : allb (λ e. notb (mem 0 (e .at))) (sql .heads) ≡ true
-unfolding sql lines butColumn butIs exprs selectItems valuesItems headsOf tailsOf pick both notb allb mem
+unfolding sql lines butColumn exprs selectItems valuesItems headsOf tailsOf pick both notb allb mem
 endless = refl
 
 endless-t : allb (λ e. notb (mem 0 (e .at))) (sql .tails) ≡ true
-unfolding sql lines butColumn butIs exprs selectItems valuesItems headsOf tailsOf pick both notb allb mem
+unfolding sql lines butColumn exprs selectItems valuesItems headsOf tailsOf pick both notb allb mem
 endless-t = refl
 
 no-line : (C k : ℕ) (es : List Line) → allb (λ e. notb (mem k (e .at))) es ≡ true → lookup C k es ≡ none

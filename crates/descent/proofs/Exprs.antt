@@ -9,7 +9,7 @@ use Rattle.theory.specs.Outcome.{got, refused}
 use Rattle.theory.proofs.Tested.{kindsOf}
 use Rattle.kinds.specs.Kinds.{COMMA}
 use Rattle.grammar.specs.Classes.{Exprs?, E}
-use Rattle.grammar.specs.Rows.{begins, goes, butColumn, butIs, exprs, selectItems, valuesItems, lines, headsOf, tailsOf}
+use Rattle.grammar.specs.Rows.{begins, goes, butColumn, exprs, selectItems, valuesItems, lines, headsOf, tailsOf}
 use Rattle.grammar.specs.Grammar.{sql}
 use Rattle.grammar.specs.Limits.{Around, isQuery}
 use Rattle.grammar.specs.Nodes.{count}
@@ -31,7 +31,7 @@ one-counts : (y : Tree) → One y → count (value y .nodes) ≡ 1
 one-counts y p = single-count (value y .nodes) (p .1 .single)
 
 pub exprs-list : ListClass Exprs? COMMA nextExpr
-unfolding sql lines butColumn butIs exprs selectItems valuesItems headsOf tailsOf pick both mem lookup kindsOf isQuery
+unfolding sql lines butColumn exprs selectItems valuesItems headsOf tailsOf pick both mem lookup kindsOf isQuery
 exprs-list = record { begins = Exprs-at-COMMA; only = firsts-Exprs; goes = refl; goes-only = refl; may = Exprs-may; weak = refl; loose = refl; no-query = refl }
 
 exprs-rule : ListRule nextExpr (E 1) (λ v. v)

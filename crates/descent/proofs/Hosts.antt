@@ -16,7 +16,7 @@ use Rattle.kinds.specs.Kinds.{RP, COMMA}
 use Rattle.kinds.specs.Classes.{beginsExpr}
 use Rattle.grammar.specs.Classes.{Paren, Column, Exprs?, Inside?, Args?, E, any}
 use Rattle.grammar.specs.RowNames.{row-more-exprs}
-use Rattle.grammar.specs.Rows.{once, butColumn, butIs, exprs, selectItems, valuesItems, lines, headsOf, tailsOf}
+use Rattle.grammar.specs.Rows.{once, butColumn, exprs, selectItems, valuesItems, lines, headsOf, tailsOf}
 use Rattle.grammar.specs.Grammar.{sql}
 use Rattle.grammar.specs.Limits.{Around, isQuery, below}
 use Rattle.grammar.specs.Nodes.{count, beside, records}
@@ -51,7 +51,7 @@ hostTest : ℕ → Bool
 hostTest C = both (mem C exprs) (both (notB (eqb C Column)) (eqFound (lookup C COMMA (sql .tails)) (some moreRow)))
 
 hosts-right : allb hostTest (Paren ∷ Inside? ∷ Args? ∷ []) ≡ true
-unfolding hostTest notB eqFound eqRow eqItems eqItem eqNt sql lines butColumn butIs exprs selectItems valuesItems headsOf tailsOf pick both allb mem lookup
+unfolding hostTest notB eqFound eqRow eqItems eqItem eqNt sql lines butColumn exprs selectItems valuesItems headsOf tailsOf pick both allb mem lookup
 hosts-right = refl
 
 pub is-host : (C : ℕ) → mem C (Paren ∷ Inside? ∷ Args? ∷ []) ≡ true → Host C

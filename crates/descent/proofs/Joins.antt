@@ -17,7 +17,7 @@ use Rattle.words.specs.Flags.{flagsOf, united}
 use Rattle.grammar.specs.Classes.{Source, Joins?, On?, any}
 use Rattle.grammar.specs.RowNames.{row-comma-join, row-join}
 use Rattle.grammar.specs.NodeNames.{node-join}
-use Rattle.grammar.specs.Rows.{goes, part, butColumn, butIs, exprs, selectItems, valuesItems, lines, headsOf, tailsOf}
+use Rattle.grammar.specs.Rows.{goes, part, butColumn, exprs, selectItems, valuesItems, lines, headsOf, tailsOf}
 use Rattle.grammar.specs.Grammar.{sql, G}
 use Rattle.grammar.specs.Limits.{Around, isQuery, below}
 use Rattle.grammar.specs.Nodes.{count, Rec, records}
@@ -42,7 +42,7 @@ abbrev joinRow : Row
 joinRow = part row-join (nt (any Source) ∷ nt (any On?) ∷ [])
 
 joins-test : ListTest sql Joins?
-unfolding sql lines butColumn butIs exprs selectItems valuesItems headsOf tailsOf pick both allb mem linesOf
+unfolding sql lines butColumn exprs selectItems valuesItems headsOf tailsOf pick both allb mem linesOf
 joins-test = record { same = refl; loose = refl }
 
 pub joins-list : Lists G (any Joins?)

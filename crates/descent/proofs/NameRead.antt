@@ -15,7 +15,7 @@ use Rattle.kinds.specs.Kinds.{STAR}
 use Rattle.kinds.specs.Classes.{isName}
 use Rattle.grammar.specs.Classes.{Name, StarOrName, SecondName, Dot?, any}
 use Rattle.grammar.specs.RowNames.{row-name, row-second-name}
-use Rattle.grammar.specs.Rows.{part, butColumn, butIs, exprs, selectItems, valuesItems, lines, headsOf, tailsOf}
+use Rattle.grammar.specs.Rows.{part, butColumn, exprs, selectItems, valuesItems, lines, headsOf, tailsOf}
 use Rattle.grammar.specs.Grammar.{sql}
 use Rattle.grammar.specs.Limits.{Around, isQuery}
 use Rattle.grammar.specs.Nodes.{Rec}
@@ -46,7 +46,7 @@ nameTest k = both (eqFound (enterOf sql (any Name) k) (atName nameRow k)) (both 
     (pick (eqb k STAR) true (λ w. eqFound (enterOf sql (any StarOrName) k) (atName secondRow k))))
 
 names-right : below? BOUND nameTest ≡ true
-unfolding nameTest atName below? eqFound eqRow eqItems eqItem eqNt isName sql lines butColumn butIs exprs selectItems valuesItems headsOf tailsOf pick both mem lookup asked onRow enterOf
+unfolding nameTest atName below? eqFound eqRow eqItems eqItem eqNt isName sql lines butColumn exprs selectItems valuesItems headsOf tailsOf pick both mem lookup asked onRow enterOf
 names-right = refl
 
 pub name-in : (k : ℕ) → k < BOUND → enterOf sql (any Name) k ≡ atName nameRow k

@@ -10,7 +10,7 @@ use Rattle.kinds.specs.Kinds.{COMMA}
 use Rattle.kinds.specs.Classes.{isName, nameCode}
 use Rattle.grammar.specs.Classes.{Name, Names?, any}
 use Rattle.grammar.specs.RowNames.{row-next-name}
-use Rattle.grammar.specs.Rows.{begins, goes, part, butColumn, butIs, exprs, selectItems, valuesItems, lines, headsOf, tailsOf}
+use Rattle.grammar.specs.Rows.{begins, goes, part, butColumn, exprs, selectItems, valuesItems, lines, headsOf, tailsOf}
 use Rattle.grammar.specs.Grammar.{sql}
 use Rattle.grammar.specs.Limits.{Around, isQuery, below}
 use Rattle.grammar.specs.Nodes.{rec}
@@ -46,7 +46,7 @@ abbrev pub nextName : Row
 nextName = part row-next-name (nt (any Name) ∷ [])
 
 names-list : ListClass Names? COMMA nextName
-unfolding sql lines butColumn butIs exprs selectItems valuesItems headsOf tailsOf pick both mem lookup kindsOf isQuery
+unfolding sql lines butColumn exprs selectItems valuesItems headsOf tailsOf pick both mem lookup kindsOf isQuery
 names-list = record { begins = Names-at-COMMA; only = firsts-Names; goes = refl; goes-only = refl; may = Names-may; weak = refl; loose = refl; no-query = refl }
 
 names-rule : ListRule nextName (any Name) (λ v. v)

@@ -12,7 +12,7 @@ use Rattle.theory.specs.Table.{pick, both, mem, lookup, contOf}
 use Rattle.theory.proofs.Cases.{0≢1, le-leb}
 use Rattle.theory.proofs.Tested.{allb, all-mem, not-found, kindsOf, kinds-found, cont-found, cont-some}
 use Rattle.grammar.specs.Classes.{Command, Name, Query, FirstLast, StarOrName, Source, Not, SecondName, Semi?, Order?, Way?, Nulls?, Limit?, Offset?, Distinct?, From?, Where?, Group?, Having?, Word2?, Word3?, On?, Dot?, Alias?, Index?, ColRest?, ColDots?, NameRest?, Dots?, Else?, any}
-use Rattle.grammar.specs.Rows.{butColumn, butIs, exprs, selectItems, valuesItems, lines, headsOf, tailsOf}
+use Rattle.grammar.specs.Rows.{butColumn, exprs, selectItems, valuesItems, lines, headsOf, tailsOf}
 use Rattle.grammar.specs.Grammar.{sql}
 
 pub no-cont : (A : Nt) (q : Row) (m k : ℕ) → mem k (kindsOf (A .of) (λ q. true) (sql .tails)) ≡ false → contOf sql A q m k ≡ none
@@ -28,7 +28,7 @@ plainClasses = Command ∷ Name ∷ Query ∷ FirstLast ∷ StarOrName ∷ Sourc
     ∷ Word2? ∷ Word3? ∷ On? ∷ Dot? ∷ Alias? ∷ Index? ∷ ColRest? ∷ ColDots? ∷ NameRest? ∷ Dots? ∷ Else? ∷ []
 
 plain-right : allb (λ C. noneOf (kindsOf C (λ q. true) (sql .tails))) plainClasses ≡ true
-unfolding plainClasses noneOf sql lines butColumn butIs exprs selectItems valuesItems headsOf tailsOf pick both allb mem kindsOf
+unfolding plainClasses noneOf sql lines butColumn exprs selectItems valuesItems headsOf tailsOf pick both allb mem kindsOf
 plain-right = refl
 
 nothing : (ks : List ℕ) → noneOf ks ≡ true → ks ≡ []

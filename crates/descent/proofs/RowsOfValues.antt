@@ -16,7 +16,7 @@ use Rattle.kinds.specs.Kinds.{LP, RP, COMMA}
 use Rattle.grammar.specs.Classes.{Rows, Exprs?, E, any}
 use Rattle.grammar.specs.RowNames.{row-first-row, row-next-row, row-word-join}
 use Rattle.grammar.specs.NodeNames.{node-list}
-use Rattle.grammar.specs.Rows.{butColumn, butIs, exprs, selectItems, valuesItems, lines, headsOf, tailsOf}
+use Rattle.grammar.specs.Rows.{butColumn, exprs, selectItems, valuesItems, lines, headsOf, tailsOf}
 use Rattle.grammar.specs.Grammar.{sql}
 use Rattle.grammar.specs.Limits.{Around, isQuery, members, lastChild, childrenBefore, width, widthOf, isKind, judge}
 use Rattle.grammar.specs.Nodes.{end, count, beside, Rec, records}
@@ -156,11 +156,11 @@ module _ (K T : List ℕ) (good : Good K T) (f : ℕ) where
 
 -- the rows go on at COMMA, and only there
 rows-on : (q : Row) (m : ℕ) → (K T : List ℕ) → contOf sql (any Rows) q m COMMA ≡ some (nextRow K T)
-unfolding sql lines butColumn butIs exprs selectItems valuesItems headsOf tailsOf pick both mem lookup
+unfolding sql lines butColumn exprs selectItems valuesItems headsOf tailsOf pick both mem lookup
 rows-on q m K T = loose-tail Rows COMMA (nextRow K T) refl refl q m
 
 tails-Rows : kindsOf Rows (λ q. true) (sql .tails) ≡ COMMA ∷ []
-unfolding sql lines butColumn butIs exprs selectItems valuesItems headsOf tailsOf pick both mem kindsOf
+unfolding sql lines butColumn exprs selectItems valuesItems headsOf tailsOf pick both mem kindsOf
 tails-Rows = refl
 
 rows-off : (k : ℕ) → (k ≡ COMMA → ⊥) → (q : Row) (m : ℕ) → contOf sql (any Rows) q m k ≡ none

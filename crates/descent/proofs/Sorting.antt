@@ -17,7 +17,7 @@ use Rattle.kinds.specs.Kinds.{COMMA, BY, ASC, DESC, NULLS, FIRST, LAST}
 use Rattle.grammar.specs.Classes.{FirstLast, Order?, Terms?, Way?, Nulls?, E, any}
 use Rattle.grammar.specs.RowNames.{row-order, row-next-term, row-asc, row-desc, row-nulls, row-first, row-last, row-next-row, row-word-join}
 use Rattle.grammar.specs.NodeNames.{node-list, node-sort}
-use Rattle.grammar.specs.Rows.{part, butColumn, butIs, exprs, selectItems, valuesItems, lines, headsOf, tailsOf}
+use Rattle.grammar.specs.Rows.{part, butColumn, exprs, selectItems, valuesItems, lines, headsOf, tailsOf}
 use Rattle.grammar.specs.Grammar.{sql}
 use Rattle.grammar.specs.Limits.{Around, isQuery, below}
 use Rattle.grammar.specs.Nodes.{count, beside, Rec, records}
@@ -37,11 +37,11 @@ use Rattle.descent.proofs.PlainClasses.{opened, begin, whole, two-on}
 use Rattle.descent.proofs.Values.{recsAll-1, recsAll-2, count-1, count-2, over-one}
 
 tails-Terms : kindsOf Terms? (λ q. true) (sql .tails) ≡ COMMA ∷ []
-unfolding sql lines butColumn butIs exprs selectItems valuesItems headsOf tailsOf pick both mem kindsOf
+unfolding sql lines butColumn exprs selectItems valuesItems headsOf tailsOf pick both mem kindsOf
 tails-Terms = refl
 
 terms-on : (q : Row) (m : ℕ) → contOf sql (any Terms?) q m COMMA ≡ some nextTerm
-unfolding sql lines butColumn butIs exprs selectItems valuesItems headsOf tailsOf pick both mem lookup
+unfolding sql lines butColumn exprs selectItems valuesItems headsOf tailsOf pick both mem lookup
 terms-on q m = loose-tail Terms? COMMA nextTerm refl refl q m
 
 abbrev nullsRow : Row

@@ -14,7 +14,7 @@ use Rattle.theory.proofs.Tested.{allb, all-mem, not-found, cont-found, cont-som
 use Rattle.kinds.specs.Strength.{strengthOf, prefixOf}
 use Rattle.kinds.specs.Classes.{isName, literalCode}
 use Rattle.grammar.specs.Classes.{Expr, E}
-use Rattle.grammar.specs.Rows.{butColumn, butIs, exprs, selectItems, valuesItems, lines, headsOf, tailsOf}
+use Rattle.grammar.specs.Rows.{butColumn, exprs, selectItems, valuesItems, lines, headsOf, tailsOf}
 use Rattle.grammar.specs.Grammar.{sql}
 use Rattle.descent.proofs.Named.{opRow, prefixRow, restOf, headRow, own}
 use Rattle.descent.proofs.SameRow.{eqNt, eqItem, eqItems, eqRow, eqFound, same-found, below?, throughout}
@@ -28,14 +28,14 @@ opTest k = pick (eqb (strengthOf k) 0) (eqFound (lookup Expr k (sql .tails)) non
     (λ w. both (both (eqb (opRow k .str) (strengthOf k)) (both (eqb (opRow k .left) (strengthOf k)) (eqb (opRow k .cap) 99))) (allb (λ C. eqFound (lookup C k (sql .tails)) (some (opRow k))) exprs))
 
 ops-right : below? BOUND opTest ≡ true
-unfolding opTest below? eqFound eqRow eqItems eqItem eqNt opRow strengthOf sql lines butColumn butIs exprs selectItems valuesItems headsOf tailsOf pick both allb mem lookup
+unfolding opTest below? eqFound eqRow eqItems eqItem eqNt opRow strengthOf sql lines butColumn exprs selectItems valuesItems headsOf tailsOf pick both allb mem lookup
 ops-right = refl
 
 headTest : ℕ → Bool
 headTest k = allb (λ C. pick (mem k (own C)) true (λ w. eqFound (lookup C k (sql .heads)) (headRow C k))) exprs
 
 heads-right : below? BOUND headTest ≡ true
-unfolding headTest below? eqFound eqRow eqItems eqItem eqNt headRow prefixRow restOf own prefixOf literalCode isName sql lines butColumn butIs exprs selectItems valuesItems headsOf tailsOf pick both allb mem lookup
+unfolding headTest below? eqFound eqRow eqItems eqItem eqNt headRow prefixRow restOf own prefixOf literalCode isName sql lines butColumn exprs selectItems valuesItems headsOf tailsOf pick both allb mem lookup
 heads-right = refl
 
 -- ── what the tests say ──

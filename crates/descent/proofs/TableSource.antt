@@ -18,7 +18,7 @@ use Rattle.kinds.specs.Classes.{isName}
 use Rattle.grammar.specs.Classes.{Name, Source, Dot?, Alias?, Index?, any}
 use Rattle.grammar.specs.RowNames.{row-table, row-indexed-by, row-not-indexed}
 use Rattle.grammar.specs.NodeNames.{node-table}
-use Rattle.grammar.specs.Rows.{part, butColumn, butIs, exprs, selectItems, valuesItems, lines, headsOf, tailsOf}
+use Rattle.grammar.specs.Rows.{part, butColumn, exprs, selectItems, valuesItems, lines, headsOf, tailsOf}
 use Rattle.grammar.specs.Grammar.{sql}
 use Rattle.grammar.specs.Limits.{Around, isQuery, below}
 use Rattle.grammar.specs.Nodes.{end, count, beside, Rec, records}
@@ -50,7 +50,7 @@ abbrev tableRow : Row
 tableRow = part row-table (nt (any Dot?) ∷ nt (any Alias?) ∷ nt (any Index?) ∷ [])
 
 table-kinds : allb (λ k. eqFound (enterOf sql (any Source) k) (some tableRow)) (ID ∷ KWID ∷ STRING ∷ INDEXED ∷ JOIN-KW ∷ []) ≡ true
-unfolding sql lines butColumn butIs exprs selectItems valuesItems headsOf tailsOf pick both allb mem lookup asked enterOf onRow eqFound eqRow eqItems eqItem eqNt
+unfolding sql lines butColumn exprs selectItems valuesItems headsOf tailsOf pick both allb mem lookup asked enterOf onRow eqFound eqRow eqItems eqItem eqNt
 table-kinds = refl
 
 table-in : (k : ℕ) → isName k ≡ true → enterOf sql (any Source) k ≡ some tableRow

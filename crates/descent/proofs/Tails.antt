@@ -16,7 +16,7 @@ use Rattle.theory.proofs.Tested.{allb, all-mem, not-found, Rows, rows-ok, cont-
 use Rattle.kinds.specs.Kinds.{ID, KWID, STRING, COMMA, AS}
 use Rattle.kinds.specs.Strength.{strengthOf}
 use Rattle.grammar.specs.Classes.{Paren, Column, Inside?, Args?}
-use Rattle.grammar.specs.Rows.{butColumn, butIs, exprs, selectItems, valuesItems, lines, headsOf, tailsOf}
+use Rattle.grammar.specs.Rows.{butColumn, exprs, selectItems, valuesItems, lines, headsOf, tailsOf}
 use Rattle.grammar.specs.Grammar.{sql}
 use Rattle.descent.proofs.Places.{kindAt}
 use Rattle.descent.proofs.SameRow.{eqNt, eqItem, eqItems, eqRow, eqFound, same-found, below?, throughout}
@@ -28,7 +28,7 @@ leftTest : ℕ → Row → Bool
 leftTest C q = pick (mem C exprs) (leb 1 (q .left)) (λ w. true)
 
 lefts-right : allb (Rows leftTest) (sql .tails) ≡ true
-unfolding leftTest sql lines butColumn butIs exprs selectItems valuesItems headsOf tailsOf pick both allb mem
+unfolding leftTest sql lines butColumn exprs selectItems valuesItems headsOf tailsOf pick both allb mem
 lefts-right = refl
 
 tail-asks : (C k : ℕ) (q : Row) → mem C exprs ≡ true → lookup C k (sql .tails) ≡ some q → 1 ≤ q .left
@@ -47,7 +47,7 @@ otherTest : ℕ → Bool
 otherTest k = pick (eqb (strengthOf k) 0) (allb (λ C. pick (mem k (others C)) true (λ w. eqFound (lookup C k (sql .tails)) none)) exprs) (λ w. true)
 
 others-right : below? BOUND otherTest ≡ true
-unfolding otherTest others below? eqFound eqRow eqItems eqItem eqNt strengthOf sql lines butColumn butIs exprs selectItems valuesItems headsOf tailsOf pick both allb mem lookup
+unfolding otherTest others below? eqFound eqRow eqItems eqItem eqNt strengthOf sql lines butColumn exprs selectItems valuesItems headsOf tailsOf pick both allb mem lookup
 others-right = refl
 
 pub other-none : (A : Nt) (q : Row) (m k : ℕ) → mem (A .of) exprs ≡ true → k < BOUND → strengthOf k ≡ 0 → mem k (others (A .of)) ≡ false → contOf sql A q m k ≡ none

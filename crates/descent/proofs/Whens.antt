@@ -12,7 +12,7 @@ use Rattle.theory.proofs.Cases.{eqb-eq}
 use Rattle.theory.proofs.Tested.{kindsOf}
 use Rattle.kinds.specs.Kinds.{WHEN, THEN}
 use Rattle.grammar.specs.Classes.{Whens?, E, any}
-use Rattle.grammar.specs.Rows.{begins, goes, butColumn, butIs, exprs, selectItems, valuesItems, lines, headsOf, tailsOf}
+use Rattle.grammar.specs.Rows.{begins, goes, butColumn, exprs, selectItems, valuesItems, lines, headsOf, tailsOf}
 use Rattle.grammar.specs.Grammar.{sql}
 use Rattle.grammar.specs.Limits.{isQuery, below}
 use Rattle.grammar.specs.Nodes.{count, beside, records}
@@ -31,7 +31,7 @@ use Rattle.descent.proofs.Values.{recsAll-3, count-3}
 use Rattle.descent.proofs.ListLaw.{ListClass, list-begins, list-absent, list-on, list-stop}
 
 whens-list : ListClass Whens? WHEN nextWhen
-unfolding sql lines butColumn butIs exprs selectItems valuesItems headsOf tailsOf pick both mem lookup kindsOf isQuery
+unfolding sql lines butColumn exprs selectItems valuesItems headsOf tailsOf pick both mem lookup kindsOf isQuery
 whens-list = record { begins = Whens-at-WHEN; only = firsts-Whens; goes = refl; goes-only = refl; may = Whens-may; weak = refl; loose = refl; no-query = refl }
 
 -- a further pair

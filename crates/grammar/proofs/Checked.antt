@@ -14,20 +14,20 @@ use Rattle.theory.proofs.Laws.{Laws}
 use Rattle.theory.proofs.Tested.{notb, allb, kindsOf, listed, isNone, hiding, looseB, followB, FollowOf, afterB, firstsB, itemsOK, isDone, leastOK, leavesOK, Tight, Checked, laws}
 use Rattle.theory.proofs.Fits.{fits}
 use Rattle.grammar.specs.Classes.{Expr, Command, E, any}
-use Rattle.grammar.specs.Rows.{butColumn, butIs, exprs, selectItems, valuesItems, lines, headsOf, tailsOf, optional}
+use Rattle.grammar.specs.Rows.{butColumn, exprs, selectItems, valuesItems, lines, headsOf, tailsOf, optional}
 use Rattle.grammar.specs.Follow.{find, coming, follows, witnesses}
 use Rattle.grammar.specs.Grammar.{sql, G}
 
 none-hidden : hiding (sql .heads) ++ hiding (sql .tails) ≡ []
-unfolding sql lines butColumn butIs exprs selectItems valuesItems headsOf tailsOf pick both allb mem lookup isNone hiding
+unfolding sql lines butColumn exprs selectItems valuesItems headsOf tailsOf pick both allb mem lookup isNone hiding
 none-hidden = refl
 
 pub checked : Checked sql (any Command)
-unfolding sql lines butColumn butIs exprs selectItems valuesItems headsOf tailsOf optional find coming follows witnesses pick both notb allb mem lookup asked kindsOf enterOf contOf capOf nullOf listed looseB followB afterB firstsB itemsOK isDone leastOK leavesOK onBool onRow onFed feed step next run
+unfolding sql lines butColumn exprs selectItems valuesItems headsOf tailsOf optional find coming follows witnesses pick both notb allb mem lookup asked kindsOf enterOf contOf capOf nullOf listed looseB followB afterB firstsB itemsOK isDone leastOK leavesOK onBool onRow onFed feed step next run
 checked = record { ends = refl; any = refl; leaves = refl; follows-h = refl; follows-t = refl; least-h = refl; least-t = refl }
 
 pub tight : Tight sql
-unfolding sql lines butColumn butIs exprs selectItems valuesItems headsOf tailsOf pick both allb
+unfolding sql lines butColumn exprs selectItems valuesItems headsOf tailsOf pick both allb
 tight = refl
 
 pub sql-laws : Laws G (FollowOf sql) (any Command)

@@ -29,7 +29,7 @@ use Rattle.words.specs.Sequences.{unitedAll}
 use Rattle.words.proofs.OrderDoesNotMatter.{one-by-one}
 use Rattle.grammar.specs.Classes.{Command, Rows, Word2?, Word3?, any}
 use Rattle.grammar.specs.RowNames.{row-next-row, row-word-join}
-use Rattle.grammar.specs.Rows.{goes, butColumn, butIs, exprs, selectItems, valuesItems, lines, headsOf, tailsOf}
+use Rattle.grammar.specs.Rows.{goes, butColumn, exprs, selectItems, valuesItems, lines, headsOf, tailsOf}
 use Rattle.grammar.specs.Grammar.{sql, G, IsCommand}
 use Rattle.grammar.specs.Sizes.{LEVELS, QUERIES}
 use Rattle.grammar.specs.Limits.{Around, outer, isQuery, isExpression, below, under, furtherFlags, width, widthOf, begun, isKind, judge, limits}
@@ -179,11 +179,11 @@ if-ok c p C k r es a l h = rw h at (rows-ok (λ C r. pick (c C r) (p C r) (λ w.
 
 -- the lines of the second and third join word
 word-enters : (C k : ℕ) (q : Row) → lookup C k (sql .heads) ≡ some q → isWord C ≡ true → both (wordy (q .items)) (notb (hasLit (q .items))) ≡ true
-unfolding sql lines butColumn butIs exprs selectItems valuesItems headsOf tailsOf pick both notb allb isWord hasLit wordy
+unfolding sql lines butColumn exprs selectItems valuesItems headsOf tailsOf pick both notb allb isWord hasLit wordy
 word-enters C k q e = if-ok (λ C r. isWord C) (λ C r. both (wordy (r .items)) (notb (hasLit (r .items)))) C k q (sql .heads) refl e
 
 word-ends : (C k : ℕ) (q : Row) → lookup C k (sql .tails) ≡ some q → notb (isWord C) ≡ true
-unfolding sql lines butColumn butIs exprs selectItems valuesItems headsOf tailsOf pick both notb allb isWord
+unfolding sql lines butColumn exprs selectItems valuesItems headsOf tailsOf pick both notb allb isWord
 word-ends C k q e = rows-ok (λ C r. notb (isWord C)) C k q (sql .tails) refl e
 
 word-opens : {B : Nt} {l : Tree} {s : Tok} {q : Row} → Opens G B l s q → isWord (B .of) ≡ true → (l ≡ nil) × (wordy (q .items) ≡ true) × (hasLit (q .items) ≡ false)
@@ -216,7 +216,7 @@ opens-ok p a b {A} {t = t} {r = r} (tail {q = q} {f = f} o g e) = rows-ok p (A .
 
 -- the row of a join with words
 join-items : {A : Nt} {l : Tree} {t : Tok} {r : Row} → Opens G A l t r → r .code ≡ row-word-join → wordy (r .items) ≡ true
-unfolding sql lines butColumn butIs exprs selectItems valuesItems headsOf tailsOf pick both notb allb isWord hasLit wordy
+unfolding sql lines butColumn exprs selectItems valuesItems headsOf tailsOf pick both notb allb isWord hasLit wordy
 join-items {r = r} o e = rw (eqb-true (r .code) row-word-join e) at (opens-ok (λ C r. pick (eqb (r .code) row-word-join) (wordy (r .items)) (λ w. true)) refl refl o)
 
 -- ── the rows of VALUES: while none was refused, the last before is as long as the first ──
@@ -243,11 +243,11 @@ part-end k (absent p h) e = 0≢1 (end-suffix k (part-suffix G p) e)
 part-end k (child p o g) e = 0≢1 (end-suffix k (part-suffix G p) e)
 
 rows-only : (C k : ℕ) (r : Row) → lookup C k (sql .tails) ≡ some r → r .code ≡ row-next-row → C ≡ Rows
-unfolding sql lines butColumn butIs exprs selectItems valuesItems headsOf tailsOf pick both allb
+unfolding sql lines butColumn exprs selectItems valuesItems headsOf tailsOf pick both allb
 rows-only C k r l e = eqb-eq C Rows (if-ok (λ C r. eqb (r .code) row-next-row) (λ C r. eqb C Rows) C k r (sql .tails) refl l (eqb-true (r .code) row-next-row e))
 
 rows-go : (C k : ℕ) (r : Row) → lookup C k (sql .tails) ≡ some r → C ≡ Rows → both (eqb (r .code) row-next-row) (endsIn RP (r .items)) ≡ true
-unfolding sql lines butColumn butIs exprs selectItems valuesItems headsOf tailsOf pick both allb endsIn isLit
+unfolding sql lines butColumn exprs selectItems valuesItems headsOf tailsOf pick both allb endsIn isLit
 rows-go C k r l e = if-ok (λ C r. eqb C Rows) (λ C r. both (eqb (r .code) row-next-row) (endsIn RP (r .items))) C k r (sql .tails) refl l (eqb-true C Rows e)
 
 -- the limits' words on a part, known as at d o

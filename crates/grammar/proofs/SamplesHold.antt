@@ -24,7 +24,7 @@ use Rattle.words.specs.Words.{words, equal}
 use Rattle.words.specs.Flags.{flagsOf}
 use Rattle.words.specs.Fewest.{endings, endingOf, fewestOf}
 use Rattle.grammar.specs.Classes.{Command, any}
-use Rattle.grammar.specs.Rows.{butColumn, butIs, exprs, selectItems, valuesItems, lines, headsOf, tailsOf, optional}
+use Rattle.grammar.specs.Rows.{butColumn, exprs, selectItems, valuesItems, lines, headsOf, tailsOf, optional}
 use Rattle.grammar.specs.Grammar.{sql, G}
 use Rattle.grammar.specs.Sizes.{TOKENS, WIDTH}
 use Rattle.grammar.specs.Limits.{Around, outer, isQuery, below, under, furtherFlags, members, lastChild, childrenBefore, width, widthOf, begun, isKind, judge}
@@ -90,7 +90,7 @@ unfoldable pub good : Sample → Bool
 good s = both (both (leb (length (s .command)) TOKENS) (leb (WIDTH * length (s .records)) PLACES)) (both (fitting (s .command)) (answers s (parsed (s .command))))
 
 pub samples-good : allb good samples ≡ true
-unfolding samples times around good fitting answers found eqAll eqRec eqTok allb fits fitText sql lines butColumn butIs exprs selectItems valuesItems headsOf tailsOf optional pick both mem lookup asked enterOf contOf nullOf capOf onBool onRow onFed feed step next check sum fault scanA onNextA onEndA faultOf isQuery below furtherFlags members lastChild childrenBefore width widthOf begun isKind judge side opt _#_ nameCode literalCode column limitAndOffset group inside rules ruled valueOf value values reading choose isEnd beside count records flagsOf words plainDetail isOne unwrapped meaning _!_ butFirst at after joined each parted rows grouped joinWords joinOf whens binaryToks binaryStr nodeStr forms formed piece pieces writing fewestOf endings endingOf strengthOf prefixOf
+unfolding samples times around good fitting answers found eqAll eqRec eqTok allb fits fitText sql lines butColumn exprs selectItems valuesItems headsOf tailsOf optional pick both mem lookup asked enterOf contOf nullOf capOf onBool onRow onFed feed step next check sum fault scanA onNextA onEndA faultOf isQuery below furtherFlags members lastChild childrenBefore width widthOf begun isKind judge side opt _#_ nameCode literalCode column limitAndOffset group inside rules ruled valueOf value values reading choose isEnd beside count records flagsOf words plainDetail isOne unwrapped meaning _!_ butFirst at after joined each parted rows grouped joinWords joinOf whens binaryToks binaryStr nodeStr forms formed piece pieces writing fewestOf endings endingOf strengthOf prefixOf
 samples-good = refl
 
 -- ── what the test says of a sample ──

@@ -42,7 +42,7 @@ running s c code is = record { code = code; str = s; left = s; cap = c; items = 
 unfoldable pub butColumn : List ℕ
 butColumn = Expr ∷ Base? ∷ Paren ∷ Inside? ∷ Args? ∷ IsRight ∷ []
 
-unfoldable pub butIs : List ℕ
+abbrev pub butIs : List ℕ
 butIs = Expr ∷ Base? ∷ Paren ∷ Inside? ∷ Args? ∷ Column ∷ []
 
 unfoldable pub exprs : List ℕ
