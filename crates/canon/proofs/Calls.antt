@@ -109,12 +109,13 @@ writes-canonical {K} {T} {p = p} {A' = A'} {B' = B'} w short shallow =
     let x = o .tree in
     let n = o .counted in
     let c = canonical (record { accepted = o .taken; short = subst (λ z. z ≤ TOKENS) n short; shallow = subst Shallow (written-tokens o) shallow }) in
-    let again : Accepted (take p A') (take p B') (c .tree) = subst (λ z. Accepted z (take p B') (c .tree)) (sym (o .kinds)) (subst (λ z. Accepted (kindsOf (writingOf x)) z (c .tree)) (sym (o .texts)) (c .accepted)) in
+    let y = c .written in
+    let again : Accepted (take p A') (take p B') (y .tree) = subst (λ z. Accepted z (take p B') (y .tree)) (sym (o .kinds)) (subst (λ z. Accepted (kindsOf (writingOf x)) z (y .tree)) (sym (o .texts)) (c .accepted)) in
     let same : MeanTheSame K T (take p A') (take p B')
-    = (meaning (reading x), record { tree = x; accepted = o .taken; meant = refl }, record { tree = c .tree; accepted = again; meant = c .meaning }) in
-    let l : length (writingOf (c .tree)) ≡ p = ap length (c .own) ∙ sym n in
+    = (meaning (reading x), record { tree = x; accepted = o .taken; meant = refl }, record { tree = y .tree; accepted = again; meant = y .meaning }) in
+    let l : length (writingOf (y .tree)) ≡ p = ap length (y .own) ∙ sym n in
     record {
-      needed = length (recordsOf (c .tree));
+      needed = length (recordsOf (y .tree));
       accepted = read-accepts again;
       meaning = same;
       rewritten = λ v r e h. write-accepts again r e (omega (arith, l, h)) v;

@@ -30,8 +30,8 @@ use Rattle.grammar.specs.Promise.{tokens, Lent, AllFit, Accepted, writingOf, ki
 use Rattle.grammar.proofs.Checked.{sql-laws}
 use Rattle.grammar.proofs.SamplesHold.{tokens-back, length-kinds, length-texts}
 use Rattle.canon.specs.ToTheRight.{NoneToTheRight}
-use Rattle.canon.specs.Promise.{SameMeaning, Within, Shallow, Writable, Rewritten, Canonical, EqualWritings}
-use Rattle.canon.proofs.Counted.{uncounted, mono, same-in}
+use Rattle.canon.specs.Promise.{SameMeaning, WithinLevels, Shallow, Writable, Rewritten, Canonical, EqualWritings}
+use Rattle.canon.proofs.Counted.{free, mono, same-in}
 use Rattle.canon.proofs.Forms.{Clean, Stands, gone, here, Pack, Result, core, plain, proper}
 use Rattle.canon.proofs.Drive.{results}
 use Rattle.canon.proofs.Shallow.{marks-within, within-limits}
@@ -80,8 +80,8 @@ unfolding faultsOf
 counted-in {x = x} a = subst AllZero (same-in x outer 0 refl) (a .within)
 
 -- levels uncounted
-freely : {K T : List ℕ} {x : Tree} → Accepted K T x → Made x (uncounted outer)
-freely {x = x} a = made a (uncounted outer) (mono x outer (uncounted outer) 0 (omega arith) refl (counted-in a)) (λ i. 0≢1 i)
+freely : {K T : List ℕ} {x : Tree} → Accepted K T x → Made x (free 0)
+freely {x = x} a = made a (free 0) (mono x outer (free 0) 0 (omega arith) refl (counted-in a)) (λ i. 0≢1 i)
 
 same-writing : (m n : Nodes) → meaning m ≡ meaning n → writing m ≡ writing n
 unfolding writing
@@ -100,13 +100,12 @@ accepted-back ts y l d z f =
     record { lent = lent-back ts l; fit = subst AllFit (sym (tokens-back ts)) f; derived = subst (λ us. IsCommand us y) (sym (tokens-back ts)) d; within = z }
 
 pub canonical : {K T : List ℕ} {x : Tree} → Writable K T x → Canonical x
+unfolding rewritten
 canonical {x = x} w =
     let m = freely (w .accepted) in
     record {
-      tree = m .tree;
+      written = rewritten (w .accepted);
       accepted = accepted-back (writingOf x) (m .tree) (w .short) (m .derived) (within-limits (writingOf x) (m .tree) (m .derived) (w .shallow (m .tree) (m .derived)) (m .clean)) (m .fit);
-      meaning = m .same;
-      own = same-writing (reading (m .tree)) (reading x) (m .same);
     }
 
 -- ── two commands ──
@@ -127,14 +126,14 @@ equal-writings {x = x} {y = y} a b = (
 -- ── when a writing is accepted ──
 -- a list of tokens whose one tree is within the limits
 all-shallow : (ts : List Tok) (x : Tree) → IsCommand ts x → AllZero (limits x) → Shallow ts
-all-shallow ts x c z y d = subst (λ v. Within (marks v)) (one-tree ts x y c d) (marks-within ts x c z)
+all-shallow ts x c z y d = subst (λ v. WithinLevels (marks v)) (one-tree ts x y c d) (marks-within ts x c z)
 
 -- exactly when it is no longer than a list that may be lent, and no deeper than 64 levels
 pub accepted-exactly : {K T : List ℕ} {x : Tree} → Accepted K T x → Canonical x ↔ ((length (writingOf x) ≤ TOKENS) × Shallow (writingOf x))
 accepted-exactly {x = x} a = (
   λ c. (
     subst (λ n. n ≤ TOKENS) (length-kinds (writingOf x)) (c .accepted .lent .short),
-    all-shallow (writingOf x) (c .tree) (subst (λ us. IsCommand us (c .tree)) (tokens-back (writingOf x)) (c .accepted .derived)) (c .accepted .within),
+    all-shallow (writingOf x) (c .written .tree) (subst (λ us. IsCommand us (c .written .tree)) (tokens-back (writingOf x)) (c .accepted .derived)) (c .accepted .within),
   ),
   λ h. canonical (record { accepted = a; short = h .0; shallow = h .1 }),
 )

@@ -15,12 +15,14 @@ use Rattle.theory.proofs.Cases.{by-bool, pick-case, 0≢1, both-l, both-r, both
 use Rattle.grammar.specs.Sizes.{LEVELS}
 use Rattle.grammar.specs.Limits.{Around, isQuery, isExpression, begun, judge}
 use Rattle.grammar.specs.Limits as limits
+use Rattle.grammar.proofs.LevelsHold.{all-left, all-right}
 
 -- one level deeper, where levels count
 unfoldable pub raise : ℕ → ℕ
 raise zero = zero
 raise (suc n) = suc (suc n)
 
+-- by the names that Limits has for them, for they stand in their place
 unfoldable pub below : Row → Around → Around
 below r c = record { level = pick (isExpression r) (raise (c .level)) (λ w. c .level); opened = pick (isQuery (r .code)) (c .opened + 1) (λ w. c .opened) }
 
@@ -30,22 +32,14 @@ under r l t k c = below r c
 abbrev pub deeper : Around → Around
 deeper c = record { level = raise (c .level); opened = c .opened }
 
--- the same, with no level counted
-abbrev pub uncounted : Around → Around
-uncounted c = record { level = 0; opened = c .opened }
+-- no level counts, and o queries are open
+abbrev pub free : ℕ → Around
+free o = record { level = 0; opened = o }
 
 -- ── lists of words ──
 pub all-app : (a b : List ℕ) → AllZero a → AllZero b → AllZero (a ++ b)
 all-app [] b z w = w
 all-app (n ∷ a) b z w = (z .0, all-app a b (z .1) w)
-
-pub all-left : (a b : List ℕ) → AllZero (a ++ b) → AllZero a
-all-left [] b z = tt
-all-left (n ∷ a) b z = (z .0, all-left a b (z .1))
-
-pub all-right : (a b : List ℕ) → AllZero (a ++ b) → AllZero b
-all-right [] b z = z
-all-right (n ∷ a) b z = all-right a b (z .1)
 
 -- ── less deep ──
 pub five : {X : Type 0} → _≡_ {A = ℕ} 5 0 → X

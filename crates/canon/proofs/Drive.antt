@@ -23,8 +23,9 @@ use Rattle.grammar.specs.Limits.{Around, isExpression, judge}
 use Rattle.grammar.specs.Reading.{choose}
 use Rattle.grammar.specs.Promise.{AllFit}
 use Rattle.grammar.proofs.Checked.{tight}
-use Rattle.canon.specs.ToTheRight.{askedAt, parts, asking, isNone, rightNot}
-use Rattle.canon.proofs.Counted.{below, under, all-left, all-right, counts-back}
+use Rattle.grammar.proofs.LevelsHold.{all-left, all-right}
+use Rattle.canon.specs.ToTheRight.{askedAt, partsSoFar, asking, isAbsent, rightNot}
+use Rattle.canon.proofs.Counted.{below, under, counts-back}
 use Rattle.canon.proofs.Forms.{Clean, Result, proper, left-out, there, KidsOf, grow, fitsAt}
 use Rattle.canon.proofs.Place.{le-trans, fit-left, fit-right, fits-more, proper-fits}
 use Rattle.canon.proofs.Lines.{by-line, heads-apart, tails-apart}
@@ -106,16 +107,16 @@ unfolding sql lines butColumn exprs selectItems valuesItems headsOf tailsOf pick
 tails-leave = refl
 
 -- the strength asked is that of the item
-asked-rest : {full rest : List Item} {f : Tree} → Part G full rest f → (n : ℕ) → askedAt full (parts f + n) ≡ askedAt rest n
-unfolding askedAt parts
+asked-rest : {full rest : List Item} {f : Tree} → Part G full rest f → (n : ℕ) → askedAt full (partsSoFar f + n) ≡ askedAt rest n
+unfolding askedAt partsSoFar
 asked-rest {full} begin n = ap (askedAt full) (none-before n)
-asked-rest {full} (token {f = f} p e) n = ap (askedAt full) (one-more (parts f) n) ∙ asked-rest p (suc n)
-asked-rest {full} (absent {f = f} p e) n = ap (askedAt full) (one-more (parts f) n) ∙ asked-rest p (suc n)
-asked-rest {full} (child {f = f} p o g) n = ap (askedAt full) (one-more (parts f) n) ∙ asked-rest p (suc n)
+asked-rest {full} (token {f = f} p e) n = ap (askedAt full) (one-more (partsSoFar f) n) ∙ asked-rest p (suc n)
+asked-rest {full} (absent {f = f} p e) n = ap (askedAt full) (one-more (partsSoFar f) n) ∙ asked-rest p (suc n)
+asked-rest {full} (child {f = f} p o g) n = ap (askedAt full) (one-more (partsSoFar f) n) ∙ asked-rest p (suc n)
 
-asked-part : {full rest : List Item} {f : Tree} {B : Nt} → Part G full (nt B ∷ rest) f → askedAt full (parts f) ≡ B .least
+asked-part : {full rest : List Item} {f : Tree} {B : Nt} → Part G full (nt B ∷ rest) f → askedAt full (partsSoFar f) ≡ B .least
 unfolding askedAt
-asked-part {full} {f = f} p = ap (askedAt full) (no-more (parts f)) ∙ asked-rest p 0
+asked-part {full} {f = f} p = ap (askedAt full) (no-more (partsSoFar f)) ∙ asked-rest p 0
 
 -- the words on NOTs to the right
 abbrev Rights : Tree → ℕ → Type 0
@@ -123,7 +124,7 @@ Rights x s = AllZero (faultsIn ℕ asking rightNot x s 0)
 
 -- where there is none, an expression is asked for no more than its row leaves
 spare : {B : Nt} {m : Tree} {s : Tok} {q : Row} → Opens G B m s q → leb (B .least) (q .str) ≡ true → leb (q .str) 12 ≡ true → rightNot (B .least) q m s nil ≡ 0 → isExpression q ≡ true → leb (B .least) (q .cap) ≡ true
-unfolding rightNot isNone both pick prefixOf
+unfolding rightNot isAbsent both pick prefixOf
 spare {B} {s = s} {q = q} (tail {q = p} {f = f} o g e) le tw w x =
     let c = rows-ok (λ C r. leb 12 (r .cap)) (B .of) (s .kind) q (sql .tails) tails-leave (cont-found sql B p (capOf f) (s .kind) q e .0) in
     le-trans (B .least) 12 (q .cap) (le-trans (B .least) (q .str) 12 le tw) c
@@ -176,9 +177,9 @@ rights-left : (s : ℕ) (r : Row) (l : Tree) (t : Tok) (f x : Tree) → AllZero 
 unfolding faultsKids
 rights-left s r l t f x z = all-left (faultsKids ℕ asking rightNot f s r l t) _ z
 
-right-child : (s : ℕ) (r : Row) (l : Tree) (t : Tok) (f : Tree) (q : Row) (m : Tree) (u : Tok) (g : Tree) → AllZero (faultsKids ℕ asking rightNot (add f (node q m u g)) s r l t) → Rights (node q m u g) (askedAt (r .items) (parts f))
+right-child : (s : ℕ) (r : Row) (l : Tree) (t : Tok) (f : Tree) (q : Row) (m : Tree) (u : Tok) (g : Tree) → AllZero (faultsKids ℕ asking rightNot (add f (node q m u g)) s r l t) → Rights (node q m u g) (askedAt (r .items) (partsSoFar f))
 unfolding faultsIn faultsKids
-right-child s r l t f q m u g z = all-right (faultsKids ℕ asking rightNot f s r l t) (faultsIn ℕ asking rightNot (node q m u g) (askedAt (r .items) (parts f)) 0) z
+right-child s r l t f q m u g z = all-right (faultsKids ℕ asking rightNot f s r l t) (faultsIn ℕ asking rightNot (node q m u g) (askedAt (r .items) (partsSoFar f)) 0) z
 
 -- of what stands in c: where levels count there is none
 abbrev Counts : Around → Type 0 → Type 0
@@ -215,7 +216,7 @@ mutual
       let zx = kids-child c r l t f q m s g z in
       let fx = fit-kids f x fl .1 in
       let fn = fit-node q m s g fx in
-      let asked : askedAt (r .items) (parts f) ≡ B .least = ap (λ is. askedAt is (parts f)) i ∙ asked-part p in
+      let asked : askedAt (r .items) (partsSoFar f) ≡ B .least = ap (λ is. askedAt is (partsSoFar f)) i ∙ asked-part p in
       let rx : Counts (below r c) (Rights x (B .least)) = λ n. subst (Rights x) asked (right-child a r l t f q m s g (rs (counts-back r c n))) in
       let ys = kids pg (below r c) q m s (node-kids (below r c) q m s g zx) (B .least) (λ n. right-here (B .least) q m s g (rx n) .1) refl (fn .1) (both-r (leb (q .str) 12) (properItems (q .items)) (opens-sound o)) tt in
       let same : node q m s (grow (below q (below r c)) (q .items) (ys .0) nil) ≡ x = ap (node q m s) (ys .1) in

@@ -28,7 +28,8 @@ use Rattle.grammar.specs.Limits.{Around, furtherFlags, isKind, begun, judge}
 use Rattle.grammar.specs.Reading.{Val, says, choose, opt, _#_, rules, ruled, valueOf, value, values}
 use Rattle.grammar.specs.Writing.{tok, toktext, at, joined, joinWords, joinOf}
 use Rattle.grammar.specs.Promise.{AllFit}
-use Rattle.canon.proofs.Counted.{below, under, all-app, all-left, all-right}
+use Rattle.grammar.proofs.LevelsHold.{all-left, all-right}
+use Rattle.canon.proofs.Counted.{below, under, all-app}
 use Rattle.canon.proofs.Says.{Run, allWords}
 use Rattle.canon.proofs.Forms.{Clean, Stands, gone, here, Pack, Result, left-out, KidsOf, grow, ws}
 use Rattle.canon.proofs.Places.{by-mem, only, open-all, open-flat}

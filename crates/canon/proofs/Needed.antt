@@ -36,5 +36,5 @@ levels-needed =
       t .tree,
       t .accepted,
       subst (λ ts. length ts ≤ TOKENS) (sym (t .writing)) (leb-le (length deeperStill) TOKENS refl),
-      λ c. not-accepted (c .tree) (subst (λ ts. Accepted (kindsOf ts) (textsOf ts) (c .tree)) (t .writing) (c .accepted)),
+      λ c. not-accepted (c .written .tree) (subst (λ ts. Accepted (kindsOf ts) (textsOf ts) (c .written .tree)) (t .writing) (c .accepted)),
     )

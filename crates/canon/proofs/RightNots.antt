@@ -14,7 +14,7 @@ use Rattle.grammar.specs.Samples.{w, v}
 use Rattle.grammar.proofs.SamplesHold.{eqAll}
 use Rattle.grammar.proofs.Promised.{found, parsed}
 use Rattle.grammar.proofs.Computes.{computes}
-use Rattle.canon.specs.ToTheRight.{askedAt, parts, asking, isNone, rightNot}
+use Rattle.canon.specs.ToTheRight.{askedAt, partsSoFar, asking, isAbsent, rightNot}
 
 -- an expression after SELECT, and the words on its tokens
 pub record Shown : Type 0 where
@@ -52,5 +52,5 @@ says ns (got k n us) = eqAll eqb (faultsOf ℕ asking rightNot 0 (found k)) (0 �
 says ns (refused m p) = false
 
 pub right-nots : allb (λ s. says (s .words) (parsed (w SELECT ∷ s .tokens))) commands ≡ true
-unfolding commands says eqAll found faultsIn faultsKids faultsOf askedAt parts isNone rightNot computes
+unfolding commands says eqAll found faultsIn faultsKids faultsOf askedAt partsSoFar isAbsent rightNot computes
 right-nots = refl

@@ -13,23 +13,23 @@ use Rattle.theory.specs.Judged.{faultsIn, faultsKids, faultsOf, AllZero}
 use Rattle.theory.proofs.Cases.{by-bool, pick-inv}
 use Rattle.grammar.specs.Grammar.{G, IsCommand}
 use Rattle.grammar.specs.Sizes.{LEVELS}
-use Rattle.grammar.specs.Limits.{Around, outer, isQuery, isExpression, begun, judge}
+use Rattle.grammar.specs.Limits.{Around, isQuery, isExpression, begun, judge}
 use Rattle.grammar.specs.Limits as limits
 use Rattle.grammar.specs.Levels.{Mark, starts, insideOf, goesOn, marks, marksOfParts, word}
-use Rattle.grammar.proofs.LevelsHold.{at, lifted, oneMore, below-at, lifted-raised, lifted-zero, none-passed}
-use Rattle.canon.specs.Promise.{Within}
-use Rattle.canon.proofs.Counted.{raise, below, under, all-app, all-left, all-right, five, uncounted}
+use Rattle.grammar.proofs.LevelsHold.{at, lifted, oneMore, below-at, lifted-raised, lifted-zero, none-passed, all-left, all-right}
+use Rattle.canon.specs.Promise.{WithinLevels}
+use Rattle.canon.proofs.Counted.{raise, below, under, all-app, five, free}
 
 -- ── from words to marks ──
 word-within : (m : Mark) → word m ≡ 0 → m .level ≤ LEVELS
 unfolding word
 word-within m e = pick-inv (ltb LEVELS (m .level)) 5 _ 0 e (λ h x. five x) (λ h x. ltb-false LEVELS (m .level) h)
 
-words-within : (ms : List Mark) → AllZero (map word ms) → Within ms
+words-within : (ms : List Mark) → AllZero (map word ms) → WithinLevels ms
 words-within [] z = tt
 words-within (m ∷ ms) z = (let h = word-within m (z .0) in omega (arith, h), words-within ms (z .1))
 
-pub marks-within : (ts : List Tok) (y : Tree) → IsCommand ts y → AllZero (limits.limits y) → Within (marks y)
+pub marks-within : (ts : List Tok) (y : Tree) → IsCommand ts y → AllZero (limits.limits y) → WithinLevels (marks y)
 marks-within ts y c z = words-within (marks y) (none-passed ts y c .0 z)
 
 -- ── from marks to words ──
@@ -54,12 +54,9 @@ seen-inside r d (m ∷ ms) z = (subst (λ n. n ≤ LEVELS) (lifted-raised (isExp
 seen-apart : (r : Row) (d : ℕ) (a b : List Mark) → Seen d (map (insideOf r) (a ++ b)) → Seen d (map (insideOf r) a ++ map (insideOf r) b)
 seen-apart r d a b z = rw map-append at z
 
-seen-outside : (ms : List Mark) → Within ms → Seen 0 ms
+seen-outside : (ms : List Mark) → WithinLevels ms → Seen 0 ms
 seen-outside [] z = tt
 seen-outside (m ∷ ms) z = (let e = lifted-zero (m .level) in omega (arith, e, z .0), seen-outside ms (z .1))
-
-abbrev free : ℕ → Around
-free o = record { level = 0; opened = o }
 
 below-free : (r : Row) (o : ℕ) → below r (free o) ≡ free (oneMore (isQuery (r .code)) o)
 unfolding below raise oneMore pick
@@ -116,6 +113,6 @@ mutual
 ok-stays : {A : Nt} {q : Row} {x : Tree} → Ok G A q x → Stays x
 ok-stays (whole {r = r} {l = l} {t = t} {f = f} o p) = node-stays r l t f (opens-stay o) (part-stays p r l t)
 
-pub within-limits : (ts : List Tok) (y : Tree) → IsCommand ts y → Within (marks y) → AllZero (faultsIn Around under judge y (uncounted outer) 0) → AllZero (limits.limits y)
+pub within-limits : (ts : List Tok) (y : Tree) → IsCommand ts y → WithinLevels (marks y) → AllZero (faultsIn Around under judge y (free 0) 0) → AllZero (limits.limits y)
 unfolding faultsOf
 within-limits ts y c w z = ok-stays (c .1) 0 0 (seen-outside (marks y) w) z

@@ -17,7 +17,6 @@ use Rattle.theory.proofs.Cases.{by-bool, 0≢1, both-l, both-r, eqb-eq, leb-le,
 use Rattle.theory.proofs.Tested.{notb, asked-some, cont-some}
 use Rattle.kinds.specs.Fit.{fitText, fits}
 use Rattle.grammar.specs.Classes.{Column, any, Paren}
-use Rattle.grammar.specs.RowNames.{row-is-not}
 use Rattle.grammar.specs.Nodes.{Nodes}
 use Rattle.grammar.specs.Rows.{exprs}
 use Rattle.grammar.specs.Grammar.{sql, G}
@@ -27,6 +26,7 @@ use Rattle.grammar.specs.Reading.{Val, empty, one, choose, valueOf, value, valu
 use Rattle.grammar.specs.Meaning.{meaning}
 use Rattle.grammar.specs.Writing.{Piece, at, forms}
 use Rattle.grammar.specs.Promise.{AllFit}
+use Rattle.grammar.proofs.LevelsHold.{no-strength}
 use Rattle.canon.proofs.Counted.{below, deeper, raise}
 use Rattle.canon.proofs.Folds.{P}
 use Rattle.canon.proofs.Says.{Operand, Cored, Says}
@@ -112,13 +112,9 @@ head-step e s all C m f c t n h ks z =
 unfoldable pub calm : Row → Bool
 calm r = both (eqb (r .str) 0) (both (eqb (r .left) 0) (notb (isQuery (r .code))))
 
-part-none : (r : Row) → r .str ≡ 0 → isExpression r ≡ false
-unfolding pick
-part-none r e = by-bool (eqb (r .code) row-is-not) (λ h. rw h) (λ h. rw (h, e))
-
 pub calm-begun : (c : Around) (r : Row) (l : Tree) → calm r ≡ true → begun c r l ≡ 0
 unfolding calm begun pick both notb
-calm-begun c r nil e = rw (part-none r (eqb-eq (r .str) 0 (both-l (eqb (r .str) 0) _ e)), not-true (isQuery (r .code)) (both-r (eqb (r .left) 0) _ (both-r (eqb (r .str) 0) _ e)))
+calm-begun c r nil e = rw (no-strength r (eqb-eq (r .str) 0 (both-l (eqb (r .str) 0) _ e)), not-true (isQuery (r .code)) (both-r (eqb (r .left) 0) _ (both-r (eqb (r .str) 0) _ e)))
 calm-begun c r (add f x) e = refl
 calm-begun c r (leaf t) e = refl
 calm-begun c r (node q l t f) e = refl

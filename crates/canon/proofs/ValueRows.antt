@@ -23,7 +23,8 @@ use Rattle.grammar.specs.Grammar.{bare, sql, G}
 use Rattle.grammar.specs.Limits.{Around, members, lastChild, childrenBefore, width, widthOf, isKind, begun, judge}
 use Rattle.grammar.specs.Reading.{Val, empty, valueOf, value}
 use Rattle.grammar.specs.Writing.{Piece, tok, within, at, each, rows, piece}
-use Rattle.canon.proofs.Counted.{below, under, all-app, all-right}
+use Rattle.grammar.proofs.LevelsHold.{all-right}
+use Rattle.canon.proofs.Counted.{below, under, all-app}
 use Rattle.canon.proofs.Folds.{P, mean, flat}
 use Rattle.canon.proofs.Says.{Operand, Run, Rowed}
 use Rattle.canon.proofs.Forms.{Clean, Stands, gone, here, Result, grow}

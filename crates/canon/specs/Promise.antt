@@ -21,13 +21,13 @@ abbrev pub SameWriting : Tree → Tree → Type 0
 SameWriting x y = writingOf x ≡ writingOf y
 
 -- marks of no expression deeper than 64 levels
-abbrev pub Within : List Mark → Type 0
-Within [] = Unit {0}
-Within (m ∷ ms) = (m .level ≤ LEVELS) × Within ms
+abbrev pub WithinLevels : List Mark → Type 0
+WithinLevels [] = Unit {0}
+WithinLevels (m ∷ ms) = (m .level ≤ LEVELS) × WithinLevels ms
 
 -- "the writing stands within 64 levels": tokens, as a command
 abbrev pub Shallow : List Tok → Type 0
-Shallow ts = (y : Tree) → IsCommand ts y → Within (marks y)
+Shallow ts = (y : Tree) → IsCommand ts y → WithinLevels (marks y)
 
 -- a command of which demand 3 speaks: accepted, its writing is a list that may be lent (AS for each bare alias makes it longer), and stands
 -- within 64 levels (parentheses around a NOT to the right make it deeper)
@@ -46,10 +46,8 @@ pub record Rewritten (x : Tree) : Type 0 where
 
 -- "each writing is accepted, keeps the meaning and is its own canonical writing"
 pub record Canonical (x : Tree) : Type 0 where
-  pub tree : Tree
-  pub accepted : Accepted (kindsOf (writingOf x)) (textsOf (writingOf x)) tree
-  pub meaning : SameMeaning tree x
-  pub own : SameWriting tree x
+  pub written : Rewritten x
+  pub accepted : Accepted (kindsOf (writingOf x)) (textsOf (writingOf x)) (written .tree)
 
 -- "Two accepted commands mean the same exactly when their canonical writings are equal token for token"
 abbrev pub EqualWritings : Tree → Tree → Type 0

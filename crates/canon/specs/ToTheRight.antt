@@ -19,25 +19,25 @@ askedAt (nt B ∷ is) zero = B .least
 askedAt (lit k ∷ is) (suc n) = askedAt is n
 askedAt (nt B ∷ is) (suc n) = askedAt is n
 
-unfoldable pub parts : Tree → ℕ
-parts nil = 0
-parts (add f x) = parts f + 1
-parts (leaf t) = 0
-parts (node r l t f) = 0
+unfoldable pub partsSoFar : Tree → ℕ
+partsSoFar nil = 0
+partsSoFar (add f x) = partsSoFar f + 1
+partsSoFar (leaf t) = 0
+partsSoFar (node r l t f) = 0
 
--- the strength that a row asks of its next part, after the parts k
+-- the strength that a row asks of its next part, after the partsSoFar k
 abbrev pub asking : Row → Tree → Tok → Tree → ℕ → ℕ
-asking r l t k s = askedAt (r .items) (parts k)
+asking r l t k s = askedAt (r .items) (partsSoFar k)
 
-unfoldable pub isNone : Tree → Bool
-isNone nil = true
-isNone (add f x) = false
-isNone (leaf t) = false
-isNone (node r l t f) = false
+unfoldable pub isAbsent : Tree → Bool
+isAbsent nil = true
+isAbsent (add f x) = false
+isAbsent (leaf t) = false
+isAbsent (node r l t f) = false
 
 -- the word on a token: 1, if it is such a NOT. s is asked; l stands to its left in its own row, and k after it so far
 unfoldable pub rightNot : ℕ → Row → Tree → Tok → Tree → ℕ
-rightNot s r l t k = pick (both (both (isNone l) (isNone k)) (both (isExpression r) (both (eqb (t .kind) NOT) (ltb (prefixOf NOT) s)))) 1 (λ w. 0)
+rightNot s r l t k = pick (both (both (isAbsent l) (isAbsent k)) (both (isExpression r) (both (eqb (t .kind) NOT) (ltb (prefixOf NOT) s)))) 1 (λ w. 0)
 
 abbrev pub NoneToTheRight : Tree → Type 0
 NoneToTheRight x = AllZero (faultsOf ℕ asking rightNot 0 x)

@@ -12,16 +12,17 @@ use native.Mathlib.Omega.{arith}
 use Rattle.theory.specs.Trees.{Tok, Nt, Row, Tree, nil, add, node, capOf}
 use Rattle.theory.specs.Table.{pick, both, mem, contOf}
 use Rattle.theory.specs.Outcome.{got, refused}
-use Rattle.theory.proofs.Cases.{by-bool, pick-case, 0≢1, eqb-eq}
+use Rattle.theory.proofs.Cases.{by-bool, 0≢1, eqb-eq}
 use Rattle.kinds.specs.Strength.{strengthOf}
 use Rattle.grammar.specs.Classes.{E}
-use Rattle.grammar.specs.RowNames.{row-next-row, row-word-join, row-is-not}
+use Rattle.grammar.specs.RowNames.{row-next-row, row-word-join}
 use Rattle.grammar.specs.Sizes.{LEVELS}
 use Rattle.grammar.specs.Rows.{exprs}
 use Rattle.grammar.specs.Grammar.{sql}
 use Rattle.grammar.specs.Limits.{Around, isQuery, isExpression, begun, judge}
 use Rattle.grammar.specs.Nodes.{Rec}
 use Rattle.grammar.specs.Reading.{choose, column, value}
+use Rattle.grammar.proofs.LevelsHold.{no-strength}
 use Rattle.descent.proofs.Places.{kindAt, from, calls, again}
 use Rattle.descent.proofs.Named.{own}
 use Rattle.descent.proofs.Walk.{Walked, done, stop, spent, bind, onto, exprW}
@@ -128,9 +129,6 @@ begun-no-word c r t q l = rw (q, le-ltb LEVELS (c .level) l) (plain (isExpressio
     plain false = refl
 
 -- or it is no expression
-pub no-strength : (r : Row) → r .str ≡ 0 → isExpression r ≡ false
-no-strength r e = pick-case (λ z. z ≡ false) (eqb (r .code) row-is-not) false _ (λ h. refl) (λ h. rw e)
-
 pub part-no-word : (c : Around) (r : Row) (t : Tok) → isQuery (r .code) ≡ false → r .str ≡ 0 → judge c r nil t nil ≡ 0
 unfolding judge begun both pick
 part-no-word c r t q l = rw (q, no-strength r l)

@@ -21,12 +21,13 @@ use Rattle.grammar.specs.Sizes.{QUERIES}
 use Rattle.grammar.specs.Limits.{Around, isQuery, below, begun, judge}
 use Rattle.grammar.specs.Nodes.{count, Rec, records}
 use Rattle.grammar.specs.Reading.{Val, one, opt, column, limitAndOffset, group, rules, ruled, valueOf, value, values, _#_}
+use Rattle.grammar.proofs.LevelsHold.{no-strength}
 use Rattle.descent.proofs.Places.{kindAt, tokAt, wrong, OpenRow, calls, rests}
 use Rattle.descent.proofs.Walk.{opening, over, queryW, bodyW, tailW, rowsW, selectW}
 use Rattle.descent.proofs.Grown.{recs}
 use Rattle.descent.proofs.Steps.{nt-got, nt-refused, call-in, call-word, call-wrong}
 use Rattle.descent.proofs.Means.{Single, Good, QueryOK, BodyOK, SelectOK, ValuesOK, TailOK}
-use Rattle.descent.proofs.Common.{no-strength, told-bind, told-map, told-choose, told-done, told-stop}
+use Rattle.descent.proofs.Common.{told-bind, told-map, told-choose, told-done, told-stop}
 use Rattle.descent.proofs.Sides.{single-count, one-single}
 use Rattle.descent.proofs.NodeRecords.{one-beside, last-beside, beside-is, over-beside}
 

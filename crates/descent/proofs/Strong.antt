@@ -11,12 +11,12 @@ use Rattle.theory.specs.Table.{pick, both, mem}
 use Rattle.theory.proofs.Cases.{both-l, both-r, leb-le}
 use Rattle.kinds.specs.Strength.{strengthOf, prefixOf}
 use Rattle.grammar.specs.Limits.{Around, isQuery, isExpression, below}
+use Rattle.grammar.proofs.LevelsHold.{no-strength}
 use Rattle.descent.proofs.Named.{opRow}
 use Rattle.descent.proofs.Walk.{deeper, notB}
 use Rattle.descent.proofs.SameRow.{below?, throughout}
 use Rattle.descent.proofs.TableFacts.{BOUND}
 use Rattle.descent.proofs.Means.{plainCode, strOf, ExprTree}
-use Rattle.descent.proofs.Common.{no-strength}
 
 pub below-strong : (r : Row) (c : Around) → isExpression r ≡ true → isQuery (r .code) ≡ false → below r c ≡ deeper c
 unfolding below pick

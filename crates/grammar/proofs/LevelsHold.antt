@@ -18,7 +18,7 @@ use Rattle.theory.specs.Derives.{Opens, head, tail, Part, begin, token, absent,
 use Rattle.theory.specs.Judged.{faultsIn, faultsKids, faultsOf, AllZero}
 use Rattle.theory.specs.Outcome.{FirstFault}
 use Rattle.theory.proofs.Machine.{idle}
-use Rattle.theory.proofs.Cases.{by-bool, pick-inv, 0≢1, both-l, both-r, eqb-eq, eqb-true, leb-le, le-leb}
+use Rattle.theory.proofs.Cases.{by-bool, pick-case, pick-inv, 0≢1, both-l, both-r, eqb-eq, eqb-true, leb-le, le-leb}
 use Rattle.theory.proofs.Laws.{Suffix, all, more, part-suffix}
 use Rattle.theory.proofs.Tested.{notb, allb, rows-ok, FollowOf, enter-found, cont-found}
 use Rattle.theory.proofs.Scan.{faults}
@@ -28,7 +28,7 @@ use Rattle.words.specs.Flags.{NO-FLAGS, flagsOf, united, legal}
 use Rattle.words.specs.Sequences.{unitedAll}
 use Rattle.words.proofs.OrderDoesNotMatter.{one-by-one}
 use Rattle.grammar.specs.Classes.{Command, Rows, Word2?, Word3?, any}
-use Rattle.grammar.specs.RowNames.{row-next-row, row-word-join}
+use Rattle.grammar.specs.RowNames.{row-next-row, row-word-join, row-is-not}
 use Rattle.grammar.specs.Rows.{goes, butColumn, exprs, selectItems, valuesItems, lines, headsOf, tailsOf}
 use Rattle.grammar.specs.Grammar.{sql, G, IsCommand}
 use Rattle.grammar.specs.Sizes.{LEVELS, QUERIES}
@@ -85,13 +85,13 @@ upTo-at (suc n ∷ a) m b ws z l e = absurd (omega (arith, z .0))
 upTo-first : (v w : List ℕ) (p m : ℕ) → upTo v ≡ upTo w → FirstWord v p m → FirstWord w p m
 upTo-first v w p m e f = let r = upTo-at (f .0) m (f .1) w (f .4) (f .5) (ap upTo (sym (f .2)) ∙ e) in (f .0, r .0, r .1, f .3, f .4, f .5)
 
-all-front : (a b : List ℕ) → AllZero (a ++ b) → AllZero a
-all-front [] b h = tt
-all-front (x ∷ a) b h = (h .0, all-front a b (h .1))
+pub all-left : (a b : List ℕ) → AllZero (a ++ b) → AllZero a
+all-left [] b h = tt
+all-left (x ∷ a) b h = (h .0, all-left a b (h .1))
 
-all-back : (a b : List ℕ) → AllZero (a ++ b) → AllZero b
-all-back [] b h = h
-all-back (x ∷ a) b h = all-back a b (h .1)
+pub all-right : (a b : List ℕ) → AllZero (a ++ b) → AllZero b
+all-right [] b h = h
+all-right (x ∷ a) b h = all-right a b (h .1)
 
 -- ── marks seen from d levels and o queries further out, and Limits' numbers there ──
 abbrev pub at : ℕ → ℕ → Around
@@ -110,6 +110,10 @@ heard d o ms = map (λ m. word (from d o m)) ms
 
 unfoldable pub oneMore : Bool → ℕ → ℕ
 oneMore b n = pick b (n + 1) (λ w. n)
+
+-- what has no strength is no expression
+pub no-strength : (r : Row) → r .str ≡ 0 → isExpression r ≡ false
+no-strength r e = pick-case (λ z. z ≡ false) (eqb (r .code) row-is-not) false _ (λ h. refl) (λ h. rw e)
 
 pub below-at : (r : Row) (d o : ℕ) → below r (at d o) ≡ at (oneMore (isExpression r) d) (oneMore (isQuery (r .code)) o)
 unfolding below oneMore pick
@@ -272,9 +276,9 @@ held {A} {t = t} {r = r} (tail {s = s} {q = q} {f = f} (tail {l = m} {s = v} {q 
     let code : q .code ≡ row-next-row = eqb-eq (q .code) row-next-row (both-l _ (endsIn RP (q .items)) goes) in
     let x = part-end RP p (both-r (eqb (q .code) row-next-row) _ goes) in
     let n : Tree = node q' m v k in
-    let w : AllZero (faultsKids Around under judge f (at d o) q n s) = all-back (wordsIn n d o) _ z .1 in
-    let y : judge (at d o) q n s (add (x .0) (leaf (x .1))) ≡ 0 = all-back (faultsKids Around under judge (x .0) (at d o) q n s) _ (subst (λ g. AllZero (faultsKids Around under judge g (at d o) q n s)) (x .2) w) .0 in
-    ap width (x .2) ∙ judged-row (at d o) q n s (x .0) (x .1) code (x .3) y ∙ held {t = s} (tail a b e) code d o (all-front (wordsIn n d o) _ z)
+    let w : AllZero (faultsKids Around under judge f (at d o) q n s) = all-right (wordsIn n d o) _ z .1 in
+    let y : judge (at d o) q n s (add (x .0) (leaf (x .1))) ≡ 0 = all-right (faultsKids Around under judge (x .0) (at d o) q n s) _ (subst (λ g. AllZero (faultsKids Around under judge g (at d o) q n s)) (x .2) w) .0 in
+    ap width (x .2) ∙ judged-row (at d o) q n s (x .0) (x .1) code (x .3) y ∙ held {t = s} (tail a b e) code d o (all-left (wordsIn n d o) _ z)
 
 -- ── the mark of a token, and its word ──
 -- a 17th query: with 16 open before it
