@@ -1,4 +1,6 @@
 // `ask`, run with -h.
+#![tactic(auto)]
+
 fn main() {
     asking::run();
 }

@@ -1,4 +1,6 @@
 // `ask`, run with -v.
+#![tactic(auto)]
+
 fn main() {
     asking::run();
 }

@@ -1,5 +1,7 @@
 // The program `ask`: commands from standard input, one a line, each answered on standard output. All of it is
 // here, so that programs of one line can be run with each option.
+#![tactic(auto)]
+
 mod help;
 mod labels;
 mod names;
@@ -15,7 +17,7 @@ use unread::Misfit;
 
 // The line that is being read, its number from 1, its last two bytes up to the first that did not fit, how many
 // bytes of output wait, and whether input is left.
-#[derive(Drop)]
+#[derive(Clone, Copy)]
 struct Now {
     line: Line,
     row: u64,

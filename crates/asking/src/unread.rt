@@ -2,7 +2,7 @@
 use report::{BLOCK, byte, bytes, number};
 
 // The byte that did not fit, a line end where the line was cut short, and the byte before it.
-#[derive(Drop)]
+#[derive(Clone, Copy)]
 pub struct Misfit {
     pub byte: u8,
     pub before: u8,

@@ -9,6 +9,8 @@
 //     LETTERS kind[.text] ... => answer of document 01 ; answer of the crate
 //
 // The crate's answer has the same two forms; one that has no number or record in document 01 is a word.
+#![tactic(auto)]
+
 use lines::{Expected, Line};
 use reading::Reading;
 use report::{BLOCK, byte, bytes, mixed, number};
@@ -26,7 +28,7 @@ const OURS: u8 = 2;
 
 const CRATE: u8 = 3;
 
-#[derive(Drop)]
+#[derive(Clone, Copy)]
 struct Case {
     part: u8,
     // Marked as the same; or with a class.
@@ -43,7 +45,7 @@ struct Case {
 }
 
 // What the lines so far gave, how many bytes of output wait, and whether the file goes on.
-#[derive(Drop)]
+#[derive(Clone, Copy)]
 struct Tally {
     lines: u64,
     wrong: u64,
@@ -53,7 +55,7 @@ struct Tally {
     more: bool,
 }
 
-#[derive(Drop)]
+#[derive(Clone, Copy)]
 struct Now {
     case: Case,
     tally: Tally,

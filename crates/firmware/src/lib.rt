@@ -1,5 +1,7 @@
 // The two calls for C: each answers as the reader and the writer do, the answer as two plain numbers. A slice is
 // a pointer and a length to C; include/cjarvint.h declares both functions.
+#![tactic(auto)]
+
 ghost use Rattle.std.specs.Prelude.{◌≡◌};
 ghost use Rattle.grammar.specs.Promise.{Reads, Writes};
 ghost use Rattle.reader.specs.Answers.{number, place, Few};
@@ -8,7 +10,7 @@ use reader::Answer;
 
 // 01's number and place of an answer: 0 and a count, or a refusal. C's `cjarvint_answer`.
 #[repr(C)]
-#[derive(Drop)]
+#[derive(Clone, Copy)]
 pub struct Told {
     pub number: u32,
     pub place: usize,

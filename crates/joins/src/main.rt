@@ -1,5 +1,7 @@
 // The 399 sequences of one to three join words through the reader, each as SELECT a FROM t words JOIN u: how
 // many it accepts, how many it refuses by 7 at JOIN, and a digest of number, place and the join's detail.
+#![tactic(auto)]
+
 use kinds::{FROM, ID, JOIN, JOIN_KW, SELECT};
 use libc::STDOUT_FILENO;
 use reader::Answer;
@@ -31,7 +33,7 @@ const FIRST_CODE: u32 = words::CROSS * DIGITS * DIGITS;
 const CODES: u32 = DIGITS * DIGITS * DIGITS;
 
 // What the sequences so far gave.
-#[derive(Drop)]
+#[derive(Clone, Copy)]
 struct Tally {
     sequences: u32,
     accepted: u32,

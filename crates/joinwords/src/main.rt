@@ -1,5 +1,7 @@
 // Runs the 399 sequences of one to three join words, the seven words in three cases, and bytes that are
 // no word, and prints the answers: counts and a digest of the first, each number of the others.
+#![tactic(auto)]
+
 use libc::STDOUT_FILENO;
 
 const MODULUS: u64 = 4294967296;
@@ -14,7 +16,7 @@ const FIRST_CODE: u32 = words::CROSS * PLACES * PLACES;
 const CODES: u32 = PLACES * PLACES * PLACES;
 
 // What the sequences so far gave.
-#[derive(Drop)]
+#[derive(Clone, Copy)]
 struct Tally {
     sequences: u32,
     legal: u32,

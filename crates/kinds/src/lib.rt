@@ -1,5 +1,7 @@
 // The token kinds of document 01: their names, the fit test, the strengths, and the classes of kinds.
 // Whoever tests a kind asks here; no other crate tests one by its number.
+#![tactic(auto)]
+
 ghost use Rattle.std.specs.Prelude.{◌≡◌};
 ghost use Rattle.kinds.specs.Classes.{is_name, is_bare_alias, is_literal, heads_call, begins_expr, reads_text, is_binary, name_code, literal_code};
 ghost use Rattle.kinds.specs.Fit.{fits};

@@ -4,6 +4,8 @@
 //     table=N outk=N outt=N kinds: K K .. texts: T T ..
 //
 // Blanks may stand before, between and after; the first form may be empty. The numbers are stored as they come.
+#![tactic(auto)]
+
 mod number;
 mod vectors;
 
@@ -77,7 +79,7 @@ const BETWEEN: u8 = 11;
 // In a number of such a list.
 const ITEM: u8 = 12;
 
-#[derive(Drop)]
+#[derive(Clone, Copy)]
 pub struct Line {
     state: u8,
     // Bytes of WORDS that are behind.

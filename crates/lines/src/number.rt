@@ -18,7 +18,7 @@ fn wide(x: u8) -> u32
     x as u32
 }
 
-#[derive(Drop)]
+#[derive(Clone, Copy)]
 pub enum Longer {
     Number(u32),
     Over,

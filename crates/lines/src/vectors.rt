@@ -11,7 +11,7 @@ ghost use Rattle.lines.specs.Vectors as vectors;
 
 use crate::number::{Longer, digit, with_digit};
 
-#[derive(Drop)]
+#[derive(Clone, Copy)]
 pub struct Expected {
     pub number: u32,
     // How many numbers are behind; the last is `number` where one has just ended.

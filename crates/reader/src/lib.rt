@@ -1,5 +1,7 @@
 // The reader: a list of tokens into records, or a refusal. One walker for both passes: the first, lent an
 // empty table, judges and counts; the second writes.
+#![tactic(auto)]
+
 ghost use Rattle.std.specs.Prelude.{◌≡◌, ℕ, ◌+◌, ◌-◌, ◌*◌, ◌/◌, ◌<◌, ◌≤◌, min, true, List, [], ◌∷◌, ◌++◌, eqb, length, get_or};
 ghost use Rattle.kinds.specs.Kinds.{STAR, AS};
 ghost use Rattle.kinds.specs.Fit.{fits};
@@ -24,7 +26,7 @@ use kinds::{
 };
 
 // The place of the next token, and the records made.
-#[derive(Drop)]
+#[derive(Clone, Copy)]
 pub struct Cursor {
     pub at: u32,
     pub made: u32,
@@ -32,13 +34,13 @@ pub struct Cursor {
 
 // Got: what a part says (the strength of an expression, the mode of an alias, the detail of a join), how many
 // members it has, and where it ends.
-#[derive(Drop)]
+#[derive(Clone, Copy)]
 pub enum Step {
     Refused(u8, u16),
     Got(u8, u16, Cursor),
 }
 
-#[derive(Drop)]
+#[derive(Clone, Copy)]
 pub enum Answer {
     Accepted(usize),
     Refused(u32, usize),
@@ -263,7 +265,7 @@ fn literal_text(io: &[&[u32]; 3], at: u32, kind: u32) -> u32
 }
 
 // Through a function of its own, which is taken into each caller: so the places of its answer are shared there, and frames are small.
-#[cycle(after_among_binary_body_call_case_cased_cast_clause_col_cols_ex_exists_expr_from_group_joins_leaf_limit_list_on_op_operand_ops_paren_parts_query_range_row_rows_select_sign_sort_source_src_sub_tail_when)]
+#[cycle(walk)]
 fn expr(io: &[&[u32]; 3], nodes: &mut [u32], at: u32, made: u32, ask: u32) -> Step
     requires { Ready 0 io.now at made × Asks 66 ask }
     ensures { Within 1 0 io.now at made result × ((s : ℕ) → Does s ask made nodes.old nodes.new io.now (λ K T f c. expr_w K T f at c s) result) }
@@ -272,7 +274,7 @@ fn expr(io: &[&[u32]; 3], nodes: &mut [u32], at: u32, made: u32, ask: u32) -> St
 }
 
 // An operand, and the operators that go on from it.
-#[cycle(after_among_binary_body_call_case_cased_cast_clause_col_cols_ex_exists_expr_from_group_joins_leaf_limit_list_on_op_operand_ops_paren_parts_query_range_row_rows_select_sign_sort_source_src_sub_tail_when)]
+#[cycle(walk)]
 fn ex(io: &[&[u32]; 3], nodes: &mut [u32], at: u32, made: u32, ask: u32) -> Step
     requires { Ready 0 io.now at made × Asks 66 ask }
     ensures { Within 1 0 io.now at made result × ((s : ℕ) → Does s ask made nodes.old nodes.new io.now (λ K T f c. expr_w K T f at c s) result) }
@@ -291,7 +293,7 @@ fn ex(io: &[&[u32]; 3], nodes: &mut [u32], at: u32, made: u32, ask: u32) -> Step
     ops(io, nodes, d.at, d.made, made, s_d as u32, ask)
 }
 
-#[cycle(after_among_binary_body_call_case_cased_cast_clause_col_cols_ex_exists_expr_from_group_joins_leaf_limit_list_on_op_operand_ops_paren_parts_query_range_row_rows_select_sign_sort_source_src_sub_tail_when)]
+#[cycle(walk)]
 fn leaf(io: &[&[u32]; 3], nodes: &mut [u32], at: u32, made: u32, kind: u32, ask: u32) -> Step
     requires { Ready 0 io.now at made × Asks 65 ask × (at < tokens io.now) × Seen io.now at kind × (0 < kind) × (kind ≤ 11) }
     ensures { Within 1 0 io.now at made result × ((s : ℕ) → Does s ask made nodes.old nodes.new io.now (λ K T f c. leaf_w K T f at c s) result) }
@@ -311,7 +313,7 @@ fn leaf(io: &[&[u32]; 3], nodes: &mut [u32], at: u32, made: u32, kind: u32, ask:
     dotted(io, nodes, at + 1, m, next, asked(ask))
 }
 
-#[cycle(after_among_binary_body_call_case_cased_cast_clause_col_cols_ex_exists_expr_from_group_joins_leaf_limit_list_on_op_operand_ops_paren_parts_query_range_row_rows_select_sign_sort_source_src_sub_tail_when)]
+#[cycle(walk)]
 fn operand(io: &[&[u32]; 3], nodes: &mut [u32], at: u32, made: u32, kind: u32, ask: u32) -> Step
     requires { Ready 0 io.now at made × Asks 65 ask × Seen io.now at kind }
     ensures { Within 1 0 io.now at made result × ((s : ℕ) → Does s ask made nodes.old nodes.new io.now (λ K T f c. operand_w K T f at c s) result) }
@@ -353,7 +355,7 @@ fn least(a: u32, b: u32) -> u32
 }
 
 // The operators that go on from an operand that leaves `first`: the tightest of them that may.
-#[cycle(after_among_binary_body_call_case_cased_cast_clause_col_cols_ex_exists_expr_from_group_joins_leaf_limit_list_on_op_operand_ops_paren_parts_query_range_row_rows_select_sign_sort_source_src_sub_tail_when)]
+#[cycle(walk)]
 fn ops(
     io: &[&[u32]; 3],
     nodes: &mut [u32],
@@ -393,7 +395,7 @@ fn ops(
     got(at, made, left as u8)
 }
 
-#[cycle(after_among_binary_body_call_case_cased_cast_clause_col_cols_ex_exists_expr_from_group_joins_leaf_limit_list_on_op_operand_ops_paren_parts_query_range_row_rows_select_sign_sort_source_src_sub_tail_when)]
+#[cycle(walk)]
 fn op(
     io: &[&[u32]; 3],
     nodes: &mut [u32],
@@ -454,7 +456,7 @@ fn notnull(nodes: &mut [u32], next: u32, made: u32, base: u32, word: u32) -> Ste
     got(next, m, 12)
 }
 
-#[cycle(after_among_binary_body_call_case_cased_cast_clause_col_cols_ex_exists_expr_from_group_joins_leaf_limit_list_on_op_operand_ops_paren_parts_query_range_row_rows_select_sign_sort_source_src_sub_tail_when)]
+#[cycle(walk)]
 fn binary(
     io: &[&[u32]; 3],
     nodes: &mut [u32],
@@ -487,7 +489,7 @@ fn collate(io: &[&[u32]; 3], nodes: &mut [u32], at: u32, made: u32, base: u32) -
     got(d.at, m, 12)
 }
 
-#[cycle(after_among_binary_body_call_case_cased_cast_clause_col_cols_ex_exists_expr_from_group_joins_leaf_limit_list_on_op_operand_ops_paren_parts_query_range_row_rows_select_sign_sort_source_src_sub_tail_when)]
+#[cycle(walk)]
 fn range(
     io: &[&[u32]; 3],
     nodes: &mut [u32],
@@ -513,7 +515,7 @@ fn range(
 }
 
 // A word, and an expression.
-#[cycle(after_among_binary_body_call_case_cased_cast_clause_col_cols_ex_exists_expr_from_group_joins_leaf_limit_list_on_op_operand_ops_paren_parts_query_range_row_rows_select_sign_sort_source_src_sub_tail_when)]
+#[cycle(walk)]
 fn after(io: &[&[u32]; 3], nodes: &mut [u32], at: u32, made: u32, word: u32, ask: u32) -> Step
     requires { Ready 0 io.now at made × Asks 66 ask × (0 < word) }
     ensures { Within 1 0 io.now at made result × ((s : ℕ) → Does s ask made nodes.old nodes.new io.now (λ K T f c. after_w K T f at word c s) result) }
@@ -526,7 +528,7 @@ fn after(io: &[&[u32]; 3], nodes: &mut [u32], at: u32, made: u32, word: u32, ask
 }
 
 // After IN.
-#[cycle(after_among_binary_body_call_case_cased_cast_clause_col_cols_ex_exists_expr_from_group_joins_leaf_limit_list_on_op_operand_ops_paren_parts_query_range_row_rows_select_sign_sort_source_src_sub_tail_when)]
+#[cycle(walk)]
 fn among(
     io: &[&[u32]; 3],
     nodes: &mut [u32],
@@ -589,7 +591,7 @@ fn ended(
 }
 
 // { expression , }: says how many.
-#[cycle(after_among_binary_body_call_case_cased_cast_clause_col_cols_ex_exists_expr_from_group_joins_leaf_limit_list_on_op_operand_ops_paren_parts_query_range_row_rows_select_sign_sort_source_src_sub_tail_when)]
+#[cycle(walk)]
 fn list(io: &[&[u32]; 3], nodes: &mut [u32], from: u32, start: u32, ask: u32) -> Step
     requires { Ready 0 io.now from start × Asks 66 ask }
     ensures { Within 1 0 io.now from start result × Does 1 ask start nodes.old nodes.new io.now (λ K T f c. list_w K T f from c 0) result }
@@ -614,7 +616,7 @@ fn list(io: &[&[u32]; 3], nodes: &mut [u32], from: u32, start: u32, ask: u32) ->
     counted(at, made, n)
 }
 
-#[cycle(after_among_binary_body_call_case_cased_cast_clause_col_cols_ex_exists_expr_from_group_joins_leaf_limit_list_on_op_operand_ops_paren_parts_query_range_row_rows_select_sign_sort_source_src_sub_tail_when)]
+#[cycle(walk)]
 fn sign(io: &[&[u32]; 3], nodes: &mut [u32], at: u32, made: u32, kind: u32, ask: u32) -> Step
     requires { Ready 0 io.now at made × Asks 65 ask × (at < tokens io.now) × Seen io.now at kind }
     ensures { Within 1 0 io.now at made result × ((s : ℕ) → Does s ask made nodes.old nodes.new io.now (λ K T f c. sign_w K T f at c s) result) }
@@ -674,7 +676,7 @@ fn dots(io: &[&[u32]; 3], nodes: &mut [u32], at: u32, made: u32) -> Step
 }
 
 // After LP of a call, whose name is the last record.
-#[cycle(after_among_binary_body_call_case_cased_cast_clause_col_cols_ex_exists_expr_from_group_joins_leaf_limit_list_on_op_operand_ops_paren_parts_query_range_row_rows_select_sign_sort_source_src_sub_tail_when)]
+#[cycle(walk)]
 fn call(io: &[&[u32]; 3], nodes: &mut [u32], at: u32, made: u32, ask: u32) -> Step
     requires { Ready 0 io.now at made × Asks 66 ask }
     ensures { Within 1 0 io.now at made result × Does 1 ask made nodes.old nodes.new io.now (λ K T f c. call_w K T f at c) result }
@@ -733,7 +735,7 @@ fn called(
 }
 
 // After LP: ( query ) or ( expressions ).
-#[cycle(after_among_binary_body_call_case_cased_cast_clause_col_cols_ex_exists_expr_from_group_joins_leaf_limit_list_on_op_operand_ops_paren_parts_query_range_row_rows_select_sign_sort_source_src_sub_tail_when)]
+#[cycle(walk)]
 fn paren(io: &[&[u32]; 3], nodes: &mut [u32], at: u32, made: u32, ask: u32) -> Step
     requires { Ready 4 io.now at made × Asks 66 ask }
     ensures { Within 1 4 io.now at made result × Does 1 ask made nodes.old nodes.new io.now (λ K T f c. paren_w K T f at c) result }
@@ -751,7 +753,7 @@ fn paren(io: &[&[u32]; 3], nodes: &mut [u32], at: u32, made: u32, ask: u32) -> S
     }
 }
 
-#[cycle(after_among_binary_body_call_case_cased_cast_clause_col_cols_ex_exists_expr_from_group_joins_leaf_limit_list_on_op_operand_ops_paren_parts_query_range_row_rows_select_sign_sort_source_src_sub_tail_when)]
+#[cycle(walk)]
 fn sub(io: &[&[u32]; 3], nodes: &mut [u32], at: u32, made: u32, code: u32, ask: u32) -> Step
     requires { Ready 4 io.now at made × Asks 66 ask }
     ensures { Within 1 4 io.now at made result × Does 1 ask made nodes.old nodes.new io.now (λ K T f c. sub_w K T f at c code) result }
@@ -763,7 +765,7 @@ fn sub(io: &[&[u32]; 3], nodes: &mut [u32], at: u32, made: u32, code: u32, ask: 
     close(io, nodes, d.at, d.made, made, code, 1)
 }
 
-#[cycle(after_among_binary_body_call_case_cased_cast_clause_col_cols_ex_exists_expr_from_group_joins_leaf_limit_list_on_op_operand_ops_paren_parts_query_range_row_rows_select_sign_sort_source_src_sub_tail_when)]
+#[cycle(walk)]
 fn exists(io: &[&[u32]; 3], nodes: &mut [u32], at: u32, made: u32, ask: u32) -> Step
     requires { Ready 0 io.now at made × Asks 66 ask }
     ensures { Within 1 0 io.now at made result × Does 1 ask made nodes.old nodes.new io.now (λ K T f c. exists_w K T f at c) result }
@@ -776,7 +778,7 @@ fn exists(io: &[&[u32]; 3], nodes: &mut [u32], at: u32, made: u32, ask: u32) -> 
 }
 
 // After CASE.
-#[cycle(after_among_binary_body_call_case_cased_cast_clause_col_cols_ex_exists_expr_from_group_joins_leaf_limit_list_on_op_operand_ops_paren_parts_query_range_row_rows_select_sign_sort_source_src_sub_tail_when)]
+#[cycle(walk)]
 fn case(io: &[&[u32]; 3], nodes: &mut [u32], at: u32, made: u32, ask: u32) -> Step
     requires { Ready 2 io.now at made × Asks 66 ask }
     ensures { Within 1 2 io.now at made result × Does 1 ask made nodes.old nodes.new io.now (λ K T f c. case_w K T f at c) result }
@@ -801,7 +803,7 @@ fn case(io: &[&[u32]; 3], nodes: &mut [u32], at: u32, made: u32, ask: u32) -> St
     got(f.at + 1, m, 12)
 }
 
-#[cycle(after_among_binary_body_call_case_cased_cast_clause_col_cols_ex_exists_expr_from_group_joins_leaf_limit_list_on_op_operand_ops_paren_parts_query_range_row_rows_select_sign_sort_source_src_sub_tail_when)]
+#[cycle(walk)]
 fn cased(io: &[&[u32]; 3], nodes: &mut [u32], at: u32, made: u32, ask: u32) -> Step
     requires { Ready 1 io.now at made × Asks 66 ask }
     ensures { Within 0 1 io.now at made result × Does 1 ask made nodes.old nodes.new io.now (λ K T f c. cased_w K T f at c) result }
@@ -815,7 +817,7 @@ fn cased(io: &[&[u32]; 3], nodes: &mut [u32], at: u32, made: u32, ask: u32) -> S
 }
 
 // WHEN expression THEN expression, once or more: says how many expressions.
-#[cycle(after_among_binary_body_call_case_cased_cast_clause_col_cols_ex_exists_expr_from_group_joins_leaf_limit_list_on_op_operand_ops_paren_parts_query_range_row_rows_select_sign_sort_source_src_sub_tail_when)]
+#[cycle(walk)]
 fn when(io: &[&[u32]; 3], nodes: &mut [u32], from: u32, start: u32, ask: u32) -> Step
     requires { Ready 0 io.now from start × Asks 66 ask }
     ensures { Within 1 0 io.now from start result × Does 1 ask start nodes.old nodes.new io.now (λ K T f c. when_w K T f from c 0) result }
@@ -844,7 +846,7 @@ fn when(io: &[&[u32]; 3], nodes: &mut [u32], from: u32, start: u32, ask: u32) ->
 }
 
 // After CAST.
-#[cycle(after_among_binary_body_call_case_cased_cast_clause_col_cols_ex_exists_expr_from_group_joins_leaf_limit_list_on_op_operand_ops_paren_parts_query_range_row_rows_select_sign_sort_source_src_sub_tail_when)]
+#[cycle(walk)]
 fn cast(io: &[&[u32]; 3], nodes: &mut [u32], at: u32, made: u32, ask: u32) -> Step
     requires { Ready 0 io.now at made × Asks 66 ask }
     ensures { Within 1 0 io.now at made result × Does 1 ask made nodes.old nodes.new io.now (λ K T f c. cast_w K T f at c) result }
@@ -866,7 +868,7 @@ fn cast(io: &[&[u32]; 3], nodes: &mut [u32], at: u32, made: u32, ask: u32) -> St
 
 // ---- queries
 
-#[cycle(after_among_binary_body_call_case_cased_cast_clause_col_cols_ex_exists_expr_from_group_joins_leaf_limit_list_on_op_operand_ops_paren_parts_query_range_row_rows_select_sign_sort_source_src_sub_tail_when)]
+#[cycle(walk)]
 fn query(io: &[&[u32]; 3], nodes: &mut [u32], at: u32, made: u32, ask: u32) -> Step
     requires { Ready 4 io.now at made × Asks 66 ask × (strength_asked ask ≡ 0) }
     ensures { Within 1 4 io.now at made result × Does 0 ask made nodes.old nodes.new io.now (λ K T f c. query_w K T f at c) result }
@@ -883,7 +885,7 @@ fn query(io: &[&[u32]; 3], nodes: &mut [u32], at: u32, made: u32, ask: u32) -> S
     got(d.at, m, 0)
 }
 
-#[cycle(after_among_binary_body_call_case_cased_cast_clause_col_cols_ex_exists_expr_from_group_joins_leaf_limit_list_on_op_operand_ops_paren_parts_query_range_row_rows_select_sign_sort_source_src_sub_tail_when)]
+#[cycle(walk)]
 fn body(io: &[&[u32]; 3], nodes: &mut [u32], at: u32, made: u32, ask: u32) -> Step
     requires { Ready 0 io.now at made × Asks 66 ask × (strength_asked ask ≡ 0) }
     ensures { Within 1 0 io.now at made result × Opens ask result × Does 0 ask made nodes.old nodes.new io.now (λ K T f c. body_w K T f at c) result }
@@ -905,7 +907,7 @@ fn body(io: &[&[u32]; 3], nodes: &mut [u32], at: u32, made: u32, ask: u32) -> St
 }
 
 // ORDER BY and LIMIT.
-#[cycle(after_among_binary_body_call_case_cased_cast_clause_col_cols_ex_exists_expr_from_group_joins_leaf_limit_list_on_op_operand_ops_paren_parts_query_range_row_rows_select_sign_sort_source_src_sub_tail_when)]
+#[cycle(walk)]
 fn tail(io: &[&[u32]; 3], nodes: &mut [u32], at: u32, made: u32, ask: u32) -> Step
     requires { Ready 3 io.now at made × Asks 66 ask }
     ensures { Within 0 3 io.now at made result × Does 1 ask made nodes.old nodes.new io.now (λ K T f c. tail_w K T f at c) result }
@@ -931,7 +933,7 @@ fn tail(io: &[&[u32]; 3], nodes: &mut [u32], at: u32, made: u32, ask: u32) -> St
 }
 
 // After VALUES: rows of one length.
-#[cycle(after_among_binary_body_call_case_cased_cast_clause_col_cols_ex_exists_expr_from_group_joins_leaf_limit_list_on_op_operand_ops_paren_parts_query_range_row_rows_select_sign_sort_source_src_sub_tail_when)]
+#[cycle(walk)]
 fn rows(io: &[&[u32]; 3], nodes: &mut [u32], from: u32, base: u32, ask: u32) -> Step
     requires { Ready 1 io.now from base × Asks 66 ask }
     ensures { Within 1 1 io.now from base result × Does 1 ask base nodes.old nodes.new io.now (λ K T f c. all_rows_w K T f from c) result }
@@ -960,7 +962,7 @@ fn rows(io: &[&[u32]; 3], nodes: &mut [u32], from: u32, base: u32, ask: u32) -> 
 }
 
 // ( expressions ), as many as `width` unless that is 0: says how many.
-#[cycle(after_among_binary_body_call_case_cased_cast_clause_col_cols_ex_exists_expr_from_group_joins_leaf_limit_list_on_op_operand_ops_paren_parts_query_range_row_rows_select_sign_sort_source_src_sub_tail_when)]
+#[cycle(walk)]
 fn row(io: &[&[u32]; 3], nodes: &mut [u32], at: u32, made: u32, width: u32, ask: u32) -> Step
     requires { Ready 0 io.now at made × Asks 66 ask }
     ensures { Within 1 0 io.now at made result × Does 1 ask made nodes.old nodes.new io.now (λ K T f c. row_w K T f at c width) result }
@@ -988,7 +990,7 @@ fn row(io: &[&[u32]; 3], nodes: &mut [u32], at: u32, made: u32, width: u32, ask:
 }
 
 // After SELECT.
-#[cycle(after_among_binary_body_call_case_cased_cast_clause_col_cols_ex_exists_expr_from_group_joins_leaf_limit_list_on_op_operand_ops_paren_parts_query_range_row_rows_select_sign_sort_source_src_sub_tail_when)]
+#[cycle(walk)]
 fn select(io: &[&[u32]; 3], nodes: &mut [u32], at: u32, made: u32, ask: u32) -> Step
     requires { Ready 8 io.now at made × Asks 66 ask }
     ensures { Within 1 8 io.now at made result × Does 1 ask made nodes.old nodes.new io.now (λ K T f c. select_w K T f at c) result }
@@ -1014,7 +1016,7 @@ fn select(io: &[&[u32]; 3], nodes: &mut [u32], at: u32, made: u32, ask: u32) -> 
 }
 
 // FROM, WHERE, GROUP BY, HAVING.
-#[cycle(after_among_binary_body_call_case_cased_cast_clause_col_cols_ex_exists_expr_from_group_joins_leaf_limit_list_on_op_operand_ops_paren_parts_query_range_row_rows_select_sign_sort_source_src_sub_tail_when)]
+#[cycle(walk)]
 fn parts(io: &[&[u32]; 3], nodes: &mut [u32], at: u32, made: u32, ask: u32) -> Step
     requires { Ready 4 io.now at made × Asks 66 ask }
     ensures { Within 0 4 io.now at made result × Does 1 ask made nodes.old nodes.new io.now (λ K T f c. parts_w K T f at c) result }
@@ -1040,7 +1042,7 @@ fn parts(io: &[&[u32]; 3], nodes: &mut [u32], at: u32, made: u32, ask: u32) -> S
 }
 
 // An optional clause of a word and an expression.
-#[cycle(after_among_binary_body_call_case_cased_cast_clause_col_cols_ex_exists_expr_from_group_joins_leaf_limit_list_on_op_operand_ops_paren_parts_query_range_row_rows_select_sign_sort_source_src_sub_tail_when)]
+#[cycle(walk)]
 fn clause(io: &[&[u32]; 3], nodes: &mut [u32], at: u32, made: u32, word: u32, ask: u32) -> Step
     requires { Ready 1 io.now at made × Asks 66 ask × (0 < word) }
     ensures { Within 0 1 io.now at made result × Does 1 ask made nodes.old nodes.new io.now (λ K T f c. clause_w K T f at word c) result }
@@ -1054,7 +1056,7 @@ fn clause(io: &[&[u32]; 3], nodes: &mut [u32], at: u32, made: u32, word: u32, as
 }
 
 // GROUP BY and HAVING.
-#[cycle(after_among_binary_body_call_case_cased_cast_clause_col_cols_ex_exists_expr_from_group_joins_leaf_limit_list_on_op_operand_ops_paren_parts_query_range_row_rows_select_sign_sort_source_src_sub_tail_when)]
+#[cycle(walk)]
 fn group(io: &[&[u32]; 3], nodes: &mut [u32], at: u32, made: u32, ask: u32) -> Step
     requires { Ready 2 io.now at made × Asks 66 ask }
     ensures { Within 0 2 io.now at made result × Does 1 ask made nodes.old nodes.new io.now (λ K T f c. group_w K T f at c) result }
@@ -1085,7 +1087,7 @@ fn group(io: &[&[u32]; 3], nodes: &mut [u32], at: u32, made: u32, ask: u32) -> S
 }
 
 // Says how many.
-#[cycle(after_among_binary_body_call_case_cased_cast_clause_col_cols_ex_exists_expr_from_group_joins_leaf_limit_list_on_op_operand_ops_paren_parts_query_range_row_rows_select_sign_sort_source_src_sub_tail_when)]
+#[cycle(walk)]
 fn cols(io: &[&[u32]; 3], nodes: &mut [u32], from: u32, base: u32, ask: u32) -> Step
     requires { Ready 2 io.now from base × Asks 66 ask }
     ensures { Within 1 2 io.now from base result × Does 1 ask base nodes.old nodes.new io.now (λ K T f c. cols_w K T f from c 0) result }
@@ -1110,7 +1112,7 @@ fn cols(io: &[&[u32]; 3], nodes: &mut [u32], from: u32, base: u32, ask: u32) -> 
     counted(at, made, n)
 }
 
-#[cycle(after_among_binary_body_call_case_cased_cast_clause_col_cols_ex_exists_expr_from_group_joins_leaf_limit_list_on_op_operand_ops_paren_parts_query_range_row_rows_select_sign_sort_source_src_sub_tail_when)]
+#[cycle(walk)]
 fn col(io: &[&[u32]; 3], nodes: &mut [u32], at: u32, made: u32, ask: u32) -> Step
     requires { Ready 2 io.now at made × Asks 66 ask }
     ensures { Within 1 2 io.now at made result × Does 1 ask made nodes.old nodes.new io.now (λ K T f c. col_w K T f at c) result }
@@ -1165,7 +1167,7 @@ fn renamed(io: &[&[u32]; 3], nodes: &mut [u32], at: u32, made: u32, kind: u32) -
     got(at + 1, m, 2)
 }
 
-#[cycle(after_among_binary_body_call_case_cased_cast_clause_col_cols_ex_exists_expr_from_group_joins_leaf_limit_list_on_op_operand_ops_paren_parts_query_range_row_rows_select_sign_sort_source_src_sub_tail_when)]
+#[cycle(walk)]
 fn from(io: &[&[u32]; 3], nodes: &mut [u32], at: u32, made: u32, kind: u32, ask: u32) -> Step
     requires { Ready 1 io.now at made × Asks 66 ask × Seen io.now at kind }
     ensures { Within 0 1 io.now at made result × Does 1 ask made nodes.old nodes.new io.now (λ K T f c. from_w K T f at c) result }
@@ -1187,7 +1189,7 @@ fn from(io: &[&[u32]; 3], nodes: &mut [u32], at: u32, made: u32, kind: u32, ask:
 }
 
 // Says how many.
-#[cycle(after_among_binary_body_call_case_cased_cast_clause_col_cols_ex_exists_expr_from_group_joins_leaf_limit_list_on_op_operand_ops_paren_parts_query_range_row_rows_select_sign_sort_source_src_sub_tail_when)]
+#[cycle(walk)]
 fn joins(io: &[&[u32]; 3], nodes: &mut [u32], from: u32, start: u32, ask: u32) -> Step
     requires { Ready 0 io.now from start × Asks 66 ask }
     ensures { Within 0 0 io.now from start result × Does 1 ask start nodes.old nodes.new io.now (λ K T f c. joins_w K T f from c 0) result }
@@ -1261,7 +1263,7 @@ fn joined(io: &[&[u32]; 3], from: u32, first: u32) -> Step
 }
 
 // ON or USING, or nothing.
-#[cycle(after_among_binary_body_call_case_cased_cast_clause_col_cols_ex_exists_expr_from_group_joins_leaf_limit_list_on_op_operand_ops_paren_parts_query_range_row_rows_select_sign_sort_source_src_sub_tail_when)]
+#[cycle(walk)]
 fn on(io: &[&[u32]; 3], nodes: &mut [u32], at: u32, made: u32, ask: u32) -> Step
     requires { Ready 1 io.now at made × Asks 66 ask }
     ensures { Within 0 1 io.now at made result × Does 1 ask made nodes.old nodes.new io.now (λ K T f c. on_w K T f at c) result }
@@ -1314,7 +1316,7 @@ fn using(io: &[&[u32]; 3], nodes: &mut [u32], from: u32, base: u32) -> Step
 }
 
 // As `expr`.
-#[cycle(after_among_binary_body_call_case_cased_cast_clause_col_cols_ex_exists_expr_from_group_joins_leaf_limit_list_on_op_operand_ops_paren_parts_query_range_row_rows_select_sign_sort_source_src_sub_tail_when)]
+#[cycle(walk)]
 fn source(io: &[&[u32]; 3], nodes: &mut [u32], at: u32, made: u32, ask: u32) -> Step
     requires { Ready 4 io.now at made × Asks 66 ask }
     ensures { Within 1 4 io.now at made result × Does 1 ask made nodes.old nodes.new io.now (λ K T f c. source_w K T f at c) result }
@@ -1323,7 +1325,7 @@ fn source(io: &[&[u32]; 3], nodes: &mut [u32], at: u32, made: u32, ask: u32) -> 
 }
 
 // A table, or a query in brackets.
-#[cycle(after_among_binary_body_call_case_cased_cast_clause_col_cols_ex_exists_expr_from_group_joins_leaf_limit_list_on_op_operand_ops_paren_parts_query_range_row_rows_select_sign_sort_source_src_sub_tail_when)]
+#[cycle(walk)]
 fn src(io: &[&[u32]; 3], nodes: &mut [u32], at: u32, made: u32, ask: u32) -> Step
     requires { Ready 4 io.now at made × Asks 66 ask }
     ensures { Within 1 4 io.now at made result × Does 1 ask made nodes.old nodes.new io.now (λ K T f c. source_w K T f at c) result }
@@ -1433,7 +1435,7 @@ fn index(io: &[&[u32]; 3], nodes: &mut [u32], at: u32, made: u32) -> Step
 }
 
 // After ORDER.
-#[cycle(after_among_binary_body_call_case_cased_cast_clause_col_cols_ex_exists_expr_from_group_joins_leaf_limit_list_on_op_operand_ops_paren_parts_query_range_row_rows_select_sign_sort_source_src_sub_tail_when)]
+#[cycle(walk)]
 fn sort(io: &[&[u32]; 3], nodes: &mut [u32], from: u32, base: u32, ask: u32) -> Step
     requires { Ready 0 io.now from base × Asks 66 ask }
     ensures { Within 1 0 io.now from base result × Does 1 ask base nodes.old nodes.new io.now (λ K T f c. sort_w K T f from c) result }
@@ -1496,7 +1498,7 @@ fn nulls(io: &[&[u32]; 3], at: u32, detail: u8) -> Step
     }
 }
 
-#[cycle(after_among_binary_body_call_case_cased_cast_clause_col_cols_ex_exists_expr_from_group_joins_leaf_limit_list_on_op_operand_ops_paren_parts_query_range_row_rows_select_sign_sort_source_src_sub_tail_when)]
+#[cycle(walk)]
 fn limit(io: &[&[u32]; 3], nodes: &mut [u32], at: u32, made: u32, ask: u32) -> Step
     requires { Ready 2 io.now at made × Asks 66 ask }
     ensures { Within 0 2 io.now at made result × Does 1 ask made nodes.old nodes.new io.now (λ K T f c. limit_w K T f at c) result }

@@ -1,4 +1,6 @@
 // A reading as the programs see it: what the reader says, and what it leaves in a node table that was clear.
+#![tactic(auto)]
+
 mod places;
 mod writing;
 
@@ -12,7 +14,7 @@ use reader::Answer;
 pub use reader::WIDTH;
 pub use writing::{Writing, written};
 
-#[derive(Drop)]
+#[derive(Clone, Copy)]
 pub struct Reading {
     // 0 for acceptance.
     pub number: u32,

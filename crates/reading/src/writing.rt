@@ -4,7 +4,7 @@ ghost use Rattle.reading.specs.Writings.{Tells, LeftIn, Written};
 use lines::Line;
 use reader::Answer;
 
-#[derive(Drop)]
+#[derive(Clone, Copy)]
 pub struct Writing {
     // 0 for acceptance.
     pub number: u32,

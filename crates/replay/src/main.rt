@@ -3,12 +3,14 @@
 // no number of its lists changed beyond them. Prints for each file how many lines it has, how many answers of the
 // reader were wrong and a digest, how many writings there were, how many answers of the writer were wrong and a
 // digest; and a line for each answer that was wrong.
+#![tactic(auto)]
+
 use lines::{Expected, Line};
 use reading::{Reading, Writing};
 use report::{BLOCK, byte, bytes, mixed, number};
 
 // A line of vectors: its command, and, once that is read, its answer.
-#[derive(Drop)]
+#[derive(Clone, Copy)]
 struct Case {
     line: Line,
     is_read: bool,
@@ -23,7 +25,7 @@ struct Case {
 }
 
 // What the lines so far gave, how many bytes of output wait, and whether the file goes on.
-#[derive(Drop)]
+#[derive(Clone, Copy)]
 struct Tally {
     lines: u64,
     wrong: u64,
@@ -35,7 +37,7 @@ struct Tally {
     more: bool,
 }
 
-#[derive(Drop)]
+#[derive(Clone, Copy)]
 struct Now {
     case: Case,
     tally: Tally,

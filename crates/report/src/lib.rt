@@ -1,5 +1,7 @@
 // What the programs over the reader share: lines of output gathered in a block, a digest, and a node table
 // that is to be clear.
+#![tactic(auto)]
+
 mod output;
 mod table;
 

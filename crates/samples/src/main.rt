@@ -1,5 +1,7 @@
 // The sample commands K1 to K13: for each a line with its name, the number and the place of the reader's
 // answer, and a digest of its records; and then, after a colon, the canonical writing, where the writer has one.
+#![tactic(auto)]
+
 use kinds::{
     ALL, COMMA, EQ, FROM, HAVING, ID, IN, INTEGER, JOIN, JOIN_KW, LIMIT, LP, NOT, PLUS, RP, SELECT,
     SEMI, STAR, VALUES,

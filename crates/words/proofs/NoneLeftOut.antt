@@ -30,6 +30,7 @@ has_word (suc (suc (suc (suc (suc (suc (suc (suc n)))))))) low high = absurd (om
 before : {w : Word} {s : List ℕ} (ws : List Word) (ss : List (List ℕ)) → Memᴰ w ws → Memᴰ s ss → Memᴰ (w.number ∷ s) (each_before ws ss)
 before {w} {s} (v ∷ vs) ss (Memᴰ.head p) m =
     Memᴰ.append_left (each_before vs ss) (Memᴰ.cast (ap (λ (x : Word). x.number ∷ s) p) (Memᴰ.map (λ (t : List ℕ). v.number ∷ t) m))
+before [] ss x'' m = elim x'' [ ]
 before (v ∷ vs) ss (Memᴰ.tail k) m = Memᴰ.append_right (map (λ t. v.number ∷ t) ss) (before vs ss k m)
 
 pub of_its_length : (s : List ℕ) → Words s → Memᴰ s (sequences_of (length s))

@@ -1,5 +1,7 @@
 // The join words: from bytes to a word's number, its flags, their union, whether they are legal, and
 // the fewest words that have them.
+#![tactic(auto)]
+
 ghost use Rattle.std.specs.Prelude.{◌≡◌, map};
 ghost use Rattle.words.specs.Words.{upper_of, equal, word_of};
 ghost use Rattle.words.specs.Flags.{flags_of, united, has, legal};
@@ -152,7 +154,7 @@ pub fn legal(flags: u32) -> bool
 }
 
 // One or two words, NO_WORD for none.
-#[derive(Drop)]
+#[derive(Clone, Copy)]
 pub struct Writing {
     pub first: u32,
     pub second: u32,

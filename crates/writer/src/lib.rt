@@ -3,6 +3,8 @@
 // A node is known by where it ends: the record of the node that ends at i is number i - 1. Each function that
 // writes takes where its tokens end, and answers where they begin. `io` is what all are lent: the records, the
 // table of strengths, and a list that is empty where the kinds are written.
+#![tactic(auto)]
+
 mod node;
 
 ghost use Rattle.std.specs.Prelude.{◌≡◌, [], ◌∷◌, ◌++◌, ◌+◌, ◌-◌, ◌%◌, ◌/◌, ◌<◌, ◌≤◌, length};
@@ -297,7 +299,7 @@ fn leads(code: u32) -> bool
 // An expression, a column or a sort term, at a place that asks for a strength. Children that stand first are
 // gone through by the loop (`ex`): a chain of operators is as deep as it is long. It is called through a function
 // that is taken into each caller, so that a caller's calls of it share one place on the stack.
-#[cycle(args_body_bounds_by_call_case_cast_clause_constraint_ex_expr_from_group_inner_joining_limit_list_on_operand_prefix_query_rest_select_source_tail_values_whens_within)]
+#[cycle(spelling)]
 fn expr(out: &mut [u32], io: &[&[u32]; 3], i: u32, to: u32, ask: u32) -> u32
     requires { Ruled io.now × Term (nodes_of io.now) i }
     ensures { Writ (term_toks ask) io.now out.old out.new result to i }
@@ -305,7 +307,7 @@ fn expr(out: &mut [u32], io: &[&[u32]; 3], i: u32, to: u32, ask: u32) -> u32
     ex(out, io, i, to, ask)
 }
 
-#[cycle(args_body_bounds_by_call_case_cast_clause_constraint_ex_expr_from_group_inner_joining_limit_list_on_operand_prefix_query_rest_select_source_tail_values_whens_within)]
+#[cycle(spelling)]
 fn ex(out: &mut [u32], io: &[&[u32]; 3], end: u32, from: u32, ask: u32) -> u32
     requires { Ruled io.now × Term (nodes_of io.now) end }
     ensures { Writ (term_toks ask) io.now out.old out.new result from end }
@@ -354,7 +356,7 @@ fn opened(out: &mut [u32], io: &[&[u32]; 3], from: u32, pairs: u32) -> u32
 }
 
 // What comes after the first child. A right operand is strictly tighter than its operator.
-#[cycle(args_body_bounds_by_call_case_cast_clause_constraint_ex_expr_from_group_inner_joining_limit_list_on_operand_prefix_query_rest_select_source_tail_values_whens_within)]
+#[cycle(spelling)]
 fn rest(out: &mut [u32], io: &[&[u32]; 3], i: u32, to: u32, k: u32) -> u32
     requires { Ruled io.now × Term (nodes_of io.now) i × (k ≤ 12) }
     ensures { Trails k io.now out.old out.new result to i }
@@ -406,7 +408,7 @@ fn operator(out: &mut [u32], io: &[&[u32]; 3], to: u32, d: u32) -> u32
 }
 
 // BETWEEN low AND high.
-#[cycle(args_body_bounds_by_call_case_cast_clause_constraint_ex_expr_from_group_inner_joining_limit_list_on_operand_prefix_query_rest_select_source_tail_values_whens_within)]
+#[cycle(spelling)]
 fn bounds(out: &mut [u32], io: &[&[u32]; 3], i: u32, to: u32) -> u32
     requires { Ruled io.now × Coded node_between (nodes_of io.now) i }
     ensures { Bounds io.now out.old out.new result to i }
@@ -426,7 +428,7 @@ fn maybe_not(out: &mut [u32], io: &[&[u32]; 3], to: u32, d: u32, kind: u32) -> u
 }
 
 // What doesn't begin with an expression.
-#[cycle(args_body_bounds_by_call_case_cast_clause_constraint_ex_expr_from_group_inner_joining_limit_list_on_operand_prefix_query_rest_select_source_tail_values_whens_within)]
+#[cycle(spelling)]
 fn operand(out: &mut [u32], io: &[&[u32]; 3], i: u32, to: u32, c: u32) -> u32
     requires { Ruled io.now × Operand (nodes_of io.now) i × (c ≡ code_at (nodes_of io.now) i) }
     ensures { Writ operand_toks io.now out.old out.new result to i }
@@ -448,7 +450,7 @@ fn operand(out: &mut [u32], io: &[&[u32]; 3], i: u32, to: u32, c: u32) -> u32
     }
 }
 
-#[cycle(args_body_bounds_by_call_case_cast_clause_constraint_ex_expr_from_group_inner_joining_limit_list_on_operand_prefix_query_rest_select_source_tail_values_whens_within)]
+#[cycle(spelling)]
 fn prefix(out: &mut [u32], io: &[&[u32]; 3], i: u32, to: u32) -> u32
     requires { Ruled io.now × Coded node_prefix (nodes_of io.now) i }
     ensures { Writ (coded_toks node_prefix) io.now out.old out.new result to i }
@@ -459,7 +461,7 @@ fn prefix(out: &mut [u32], io: &[&[u32]; 3], i: u32, to: u32) -> u32
 }
 
 // ( query ) or ( members )
-#[cycle(args_body_bounds_by_call_case_cast_clause_constraint_ex_expr_from_group_inner_joining_limit_list_on_operand_prefix_query_rest_select_source_tail_values_whens_within)]
+#[cycle(spelling)]
 fn within(out: &mut [u32], io: &[&[u32]; 3], i: u32, to: u32) -> u32
     requires { Ruled io.now × Inside (nodes_of io.now) i }
     ensures { Writ inside_toks io.now out.old out.new result to i }
@@ -469,7 +471,7 @@ fn within(out: &mut [u32], io: &[&[u32]; 3], i: u32, to: u32) -> u32
     word(out, io, t, LP)
 }
 
-#[cycle(args_body_bounds_by_call_case_cast_clause_constraint_ex_expr_from_group_inner_joining_limit_list_on_operand_prefix_query_rest_select_source_tail_values_whens_within)]
+#[cycle(spelling)]
 fn inner(out: &mut [u32], io: &[&[u32]; 3], i: u32, to: u32) -> u32
     requires { Ruled io.now × Inside (nodes_of io.now) i }
     ensures { Writ inner_toks io.now out.old out.new result to i }
@@ -480,7 +482,7 @@ fn inner(out: &mut [u32], io: &[&[u32]; 3], i: u32, to: u32) -> u32
     list(out, io, i, to)
 }
 
-#[cycle(args_body_bounds_by_call_case_cast_clause_constraint_ex_expr_from_group_inner_joining_limit_list_on_operand_prefix_query_rest_select_source_tail_values_whens_within)]
+#[cycle(spelling)]
 fn call(out: &mut [u32], io: &[&[u32]; 3], i: u32, to: u32) -> u32
     requires { Ruled io.now × Coded node_call (nodes_of io.now) i }
     ensures { Writ (coded_toks node_call) io.now out.old out.new result to i }
@@ -492,7 +494,7 @@ fn call(out: &mut [u32], io: &[&[u32]; 3], i: u32, to: u32) -> u32
 }
 
 // STAR, or arguments after an optional DISTINCT.
-#[cycle(args_body_bounds_by_call_case_cast_clause_constraint_ex_expr_from_group_inner_joining_limit_list_on_operand_prefix_query_rest_select_source_tail_values_whens_within)]
+#[cycle(spelling)]
 fn args(out: &mut [u32], io: &[&[u32]; 3], i: u32, to: u32) -> u32
     requires { Ruled io.now × Coded node_call (nodes_of io.now) i }
     ensures { Writ args_toks io.now out.old out.new result to i }
@@ -505,7 +507,7 @@ fn args(out: &mut [u32], io: &[&[u32]; 3], i: u32, to: u32) -> u32
     word_if(out, io, l, DISTINCT, d == node::DISTINCT)
 }
 
-#[cycle(args_body_bounds_by_call_case_cast_clause_constraint_ex_expr_from_group_inner_joining_limit_list_on_operand_prefix_query_rest_select_source_tail_values_whens_within)]
+#[cycle(spelling)]
 fn case(out: &mut [u32], io: &[&[u32]; 3], i: u32, to: u32) -> u32
     requires { Ruled io.now × Coded node_case (nodes_of io.now) i }
     ensures { Writ (coded_toks node_case) io.now out.old out.new result to i }
@@ -517,7 +519,7 @@ fn case(out: &mut [u32], io: &[&[u32]; 3], i: u32, to: u32) -> u32
 }
 
 // The base, if there is one, and the pairs of WHEN and THEN.
-#[cycle(args_body_bounds_by_call_case_cast_clause_constraint_ex_expr_from_group_inner_joining_limit_list_on_operand_prefix_query_rest_select_source_tail_values_whens_within)]
+#[cycle(spelling)]
 fn whens(out: &mut [u32], io: &[&[u32]; 3], i: u32, from: u32) -> u32
     requires { Ruled io.now × Coded node_case (nodes_of io.now) i }
     ensures { Writ whens_toks io.now out.old out.new result from i }
@@ -538,7 +540,7 @@ fn whens(out: &mut [u32], io: &[&[u32]; 3], i: u32, from: u32) -> u32
     expr(out, io, j, to, ANY)
 }
 
-#[cycle(args_body_bounds_by_call_case_cast_clause_constraint_ex_expr_from_group_inner_joining_limit_list_on_operand_prefix_query_rest_select_source_tail_values_whens_within)]
+#[cycle(spelling)]
 fn cast(out: &mut [u32], io: &[&[u32]; 3], i: u32, to: u32) -> u32
     requires { Ruled io.now × Coded node_cast (nodes_of io.now) i }
     ensures { Writ (coded_toks node_cast) io.now out.old out.new result to i }
@@ -552,7 +554,7 @@ fn cast(out: &mut [u32], io: &[&[u32]; 3], i: u32, to: u32) -> u32
 // ---- lists and clauses
 
 // The members of a list, parted by COMMA.
-#[cycle(args_body_bounds_by_call_case_cast_clause_constraint_ex_expr_from_group_inner_joining_limit_list_on_operand_prefix_query_rest_select_source_tail_values_whens_within)]
+#[cycle(spelling)]
 fn list(out: &mut [u32], io: &[&[u32]; 3], i: u32, from: u32) -> u32
     requires { Ruled io.now × Terms (nodes_of io.now) i }
     ensures { Writ terms_toks io.now out.old out.new result from i }
@@ -590,7 +592,7 @@ fn nulls(out: &mut [u32], io: &[&[u32]; 3], to: u32, said: u32) -> u32
 }
 
 // A word and an expression, or nothing.
-#[cycle(args_body_bounds_by_call_case_cast_clause_constraint_ex_expr_from_group_inner_joining_limit_list_on_operand_prefix_query_rest_select_source_tail_values_whens_within)]
+#[cycle(spelling)]
 fn clause(out: &mut [u32], io: &[&[u32]; 3], i: u32, to: u32, kind: u32) -> u32
     requires { Ruled io.now × Maybe an_expr (nodes_of io.now) i }
     ensures { Writ (may_toks an_expr (tok kind ∷ [])) io.now out.old out.new result to i }
@@ -603,7 +605,7 @@ fn clause(out: &mut [u32], io: &[&[u32]; 3], i: u32, to: u32, kind: u32) -> u32
 }
 
 // GROUP or ORDER, BY and a list; nothing where there is none, or none of its members (HAVING alone).
-#[cycle(args_body_bounds_by_call_case_cast_clause_constraint_ex_expr_from_group_inner_joining_limit_list_on_operand_prefix_query_rest_select_source_tail_values_whens_within)]
+#[cycle(spelling)]
 fn by(out: &mut [u32], io: &[&[u32]; 3], i: u32, to: u32, kind: u32) -> u32
     requires { Ruled io.now × Perhaps (nodes_of io.now) i }
     ensures { Writ (perhaps_toks kind) io.now out.old out.new result to i }
@@ -617,7 +619,7 @@ fn by(out: &mut [u32], io: &[&[u32]; 3], i: u32, to: u32, kind: u32) -> u32
 
 // ---- queries
 
-#[cycle(args_body_bounds_by_call_case_cast_clause_constraint_ex_expr_from_group_inner_joining_limit_list_on_operand_prefix_query_rest_select_source_tail_values_whens_within)]
+#[cycle(spelling)]
 fn query(out: &mut [u32], io: &[&[u32]; 3], i: u32, to: u32) -> u32
     requires { Ruled io.now × Coded node_query (nodes_of io.now) i }
     ensures { Writ (coded_toks node_query) io.now out.old out.new result to i }
@@ -627,7 +629,7 @@ fn query(out: &mut [u32], io: &[&[u32]; 3], i: u32, to: u32) -> u32
     body(out, io, child(io, i, 3), o)
 }
 
-#[cycle(args_body_bounds_by_call_case_cast_clause_constraint_ex_expr_from_group_inner_joining_limit_list_on_operand_prefix_query_rest_select_source_tail_values_whens_within)]
+#[cycle(spelling)]
 fn body(out: &mut [u32], io: &[&[u32]; 3], i: u32, to: u32) -> u32
     requires { Ruled io.now × Whole a_body (nodes_of io.now) i }
     ensures { Writ (node_toks a_body) io.now out.old out.new result to i }
@@ -638,7 +640,7 @@ fn body(out: &mut [u32], io: &[&[u32]; 3], i: u32, to: u32) -> u32
     values(out, io, i, to)
 }
 
-#[cycle(args_body_bounds_by_call_case_cast_clause_constraint_ex_expr_from_group_inner_joining_limit_list_on_operand_prefix_query_rest_select_source_tail_values_whens_within)]
+#[cycle(spelling)]
 fn limit(out: &mut [u32], io: &[&[u32]; 3], i: u32, to: u32) -> u32
     requires { Ruled io.now × Coded node_query (nodes_of io.now) i }
     ensures { Writ limit_toks io.now out.old out.new result to i }
@@ -647,7 +649,7 @@ fn limit(out: &mut [u32], io: &[&[u32]; 3], i: u32, to: u32) -> u32
     clause(out, io, child(io, i, 1), o, LIMIT)
 }
 
-#[cycle(args_body_bounds_by_call_case_cast_clause_constraint_ex_expr_from_group_inner_joining_limit_list_on_operand_prefix_query_rest_select_source_tail_values_whens_within)]
+#[cycle(spelling)]
 fn select(out: &mut [u32], io: &[&[u32]; 3], i: u32, to: u32) -> u32
     requires { Ruled io.now × Coded node_select (nodes_of io.now) i }
     ensures { Writ (coded_toks node_select) io.now out.old out.new result to i }
@@ -666,7 +668,7 @@ fn selected(out: &mut [u32], io: &[&[u32]; 3], to: u32, d: u32) -> u32
 }
 
 // FROM and what follows it.
-#[cycle(args_body_bounds_by_call_case_cast_clause_constraint_ex_expr_from_group_inner_joining_limit_list_on_operand_prefix_query_rest_select_source_tail_values_whens_within)]
+#[cycle(spelling)]
 fn tail(out: &mut [u32], io: &[&[u32]; 3], i: u32, to: u32) -> u32
     requires { Ruled io.now × Coded node_select (nodes_of io.now) i }
     ensures { Writ tail_toks io.now out.old out.new result to i }
@@ -677,7 +679,7 @@ fn tail(out: &mut [u32], io: &[&[u32]; 3], i: u32, to: u32) -> u32
 }
 
 // GROUP BY and HAVING.
-#[cycle(args_body_bounds_by_call_case_cast_clause_constraint_ex_expr_from_group_inner_joining_limit_list_on_operand_prefix_query_rest_select_source_tail_values_whens_within)]
+#[cycle(spelling)]
 fn group(out: &mut [u32], io: &[&[u32]; 3], i: u32, to: u32) -> u32
     requires { Ruled io.now × Coded node_select (nodes_of io.now) i }
     ensures { Writ group_toks io.now out.old out.new result to i }
@@ -687,7 +689,7 @@ fn group(out: &mut [u32], io: &[&[u32]; 3], i: u32, to: u32) -> u32
 }
 
 // VALUES and its rows.
-#[cycle(args_body_bounds_by_call_case_cast_clause_constraint_ex_expr_from_group_inner_joining_limit_list_on_operand_prefix_query_rest_select_source_tail_values_whens_within)]
+#[cycle(spelling)]
 fn values(out: &mut [u32], io: &[&[u32]; 3], i: u32, from: u32) -> u32
     requires { Ruled io.now × Coded node_values (nodes_of io.now) i }
     ensures { Writ (coded_toks node_values) io.now out.old out.new result from i }
@@ -707,7 +709,7 @@ fn values(out: &mut [u32], io: &[&[u32]; 3], i: u32, from: u32) -> u32
 }
 
 // FROM, a source and joins, or nothing.
-#[cycle(args_body_bounds_by_call_case_cast_clause_constraint_ex_expr_from_group_inner_joining_limit_list_on_operand_prefix_query_rest_select_source_tail_values_whens_within)]
+#[cycle(spelling)]
 fn from(out: &mut [u32], io: &[&[u32]; 3], i: u32, end: u32) -> u32
     requires { Ruled io.now × Maybe a_from (nodes_of io.now) i }
     ensures { Writ (bare_toks a_from) io.now out.old out.new result end i }
@@ -727,7 +729,7 @@ fn from(out: &mut [u32], io: &[&[u32]; 3], i: u32, end: u32) -> u32
 }
 
 // A join, or the first source.
-#[cycle(args_body_bounds_by_call_case_cast_clause_constraint_ex_expr_from_group_inner_joining_limit_list_on_operand_prefix_query_rest_select_source_tail_values_whens_within)]
+#[cycle(spelling)]
 fn joining(out: &mut [u32], io: &[&[u32]; 3], i: u32, to: u32) -> u32
     requires { Ruled io.now × Part (nodes_of io.now) i }
     ensures { Writ part_toks io.now out.old out.new result to i }
@@ -737,7 +739,7 @@ fn joining(out: &mut [u32], io: &[&[u32]; 3], i: u32, to: u32) -> u32
     joined(out, io, i, s)
 }
 
-#[cycle(args_body_bounds_by_call_case_cast_clause_constraint_ex_expr_from_group_inner_joining_limit_list_on_operand_prefix_query_rest_select_source_tail_values_whens_within)]
+#[cycle(spelling)]
 fn constraint(out: &mut [u32], io: &[&[u32]; 3], i: u32, to: u32) -> u32
     requires { Ruled io.now × Part (nodes_of io.now) i }
     ensures { Writ constraint_toks io.now out.old out.new result to i }
@@ -789,7 +791,7 @@ fn join_word(out: &mut [u32], io: &[&[u32]; 3], to: u32, w: u32) -> u32
     put(out, io, to, JOIN_KW, w)
 }
 
-#[cycle(args_body_bounds_by_call_case_cast_clause_constraint_ex_expr_from_group_inner_joining_limit_list_on_operand_prefix_query_rest_select_source_tail_values_whens_within)]
+#[cycle(spelling)]
 fn on(out: &mut [u32], io: &[&[u32]; 3], i: u32, to: u32) -> u32
     requires { Ruled io.now × Maybe a_constraint (nodes_of io.now) i }
     ensures { Writ (bare_toks a_constraint) io.now out.old out.new result to i }
@@ -810,7 +812,7 @@ fn using(out: &mut [u32], io: &[&[u32]; 3], i: u32, to: u32) -> u32
     words(out, io, n, USING, LP)
 }
 
-#[cycle(args_body_bounds_by_call_case_cast_clause_constraint_ex_expr_from_group_inner_joining_limit_list_on_operand_prefix_query_rest_select_source_tail_values_whens_within)]
+#[cycle(spelling)]
 fn source(out: &mut [u32], io: &[&[u32]; 3], i: u32, to: u32) -> u32
     requires { Ruled io.now × Whole a_source (nodes_of io.now) i }
     ensures { Writ (node_toks a_source) io.now out.old out.new result to i }
