@@ -21,7 +21,7 @@ use Rattle.scribe.proofs.Lists.{case_kids, case_toks}
 use Rattle.shapes.specs.Shape.{an_expr, a_constraint, a_from, a_source, a_body, list_of}
 use Rattle.scribe.proofs.Whole.{piece_at, Whole, before_of}
 use Rattle.scribe.proofs.Clauses.{may_here, clause_gone, clause_here, no_from, some_from, may_gone}
-use Rattle.scribe.proofs.Turns.{along_start, along_turn, bare_ends, bare_operand, bare_goes, FromRest, from_yet, from_part, joined-more, joined_done, row_yet, many_last, parted_more, parted_final, parted_done, rows_yet, rows_more, rows_final, rows_done, CaseRest, case_yet, case_result, case_condition, case_more, case_base_at, case_done}
+use Rattle.scribe.proofs.Turns.{along_start, along_turn, bare_ends, bare_operand, bare_goes, FromRest, from_yet, from_part, joined_more, joined_done, row_yet, many_last, parted_more, parted_final, parted_done, rows_yet, rows_more, rows_final, rows_done, CaseRest, case_yet, case_result, case_condition, case_more, case_base_at, case_done}
 use borrow.Author.Tests.{not-false, not-true}
 use lib.ListN.{length}
 use Rattle.canon.proofs.Folds.{P}
@@ -158,7 +158,7 @@ pub from-loop-n-smaller : goal.from-loop-n-smaller
 from-loop-n-smaller t c = omega arith
 
 pub from-loop-n-preserved : goal.from-loop-n-preserved
-from-loop-n-preserved t c = (let h = c.loop-n.invariant.0 in let e = c.before-j.ensures in let m = before_most (nodes_of c.args.io.now) c.loop-n.j in omega (arith, h, e, m), c.joining-to.auto.out ∙ c.loop-n.invariant.1, λ w. joined-more (c.loop-n.invariant.2 w) c.loop-n-test.true c.joining-to.ensures.told c.before-j.ensures refl)
+from-loop-n-preserved t c = (let h = c.loop-n.invariant.0 in let e = c.before-j.ensures in let m = before_most (nodes_of c.args.io.now) c.loop-n.j in omega (arith, h, e, m), c.joining-to.auto.out ∙ c.loop-n.invariant.1, λ w. joined_more (c.loop-n.invariant.2 w) c.loop-n-test.true c.joining-to.ensures.told c.before-j.ensures refl)
 
 pub from-returns : goal.from-returns
 from-returns t c = record { told = λ m. let k = some_from m (λ e. c.if-n-eq0.false (children_at_lem c.children-n.ensures (may_there m).0 ∙ e)) in puts_as (ap (λ z. z.toks) k.1 ∙ (from_spelt k.0 (from_is k.0)).toks) (c.word.ensures after joined_done (c.loop-n.invariant.2 k.0) c.loop-n-test.false) }

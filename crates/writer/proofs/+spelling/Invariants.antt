@@ -22,7 +22,7 @@ use Rattle.scribe.proofs.Lists.{case_kids, case_toks}
 use Rattle.shapes.specs.Shape.{an_expr, a_constraint, a_from, a_source, a_body, list_of}
 use Rattle.scribe.proofs.Whole.{piece_at, Whole, before_of}
 use Rattle.scribe.proofs.Clauses.{may_here, clause_gone, clause_here, no_from, some_from, may_gone}
-use Rattle.scribe.proofs.Turns.{along_start, along_turn, bare_ends, bare_operand, bare_goes, FromRest, from_yet, from_part, joined-more, joined_done, row_yet, many_last, parted_more, parted_final, parted_done, rows_yet, rows_more, rows_final, rows_done, CaseRest, case_yet, case_result, case_condition, case_more, case_base_at, case_done}
+use Rattle.scribe.proofs.Turns.{along_start, along_turn, bare_ends, bare_operand, bare_goes, FromRest, from_yet, from_part, joined_more, joined_done, row_yet, many_last, parted_more, parted_final, parted_done, rows_yet, rows_more, rows_final, rows_done, CaseRest, case_yet, case_result, case_condition, case_more, case_base_at, case_done}
 use borrow.Author.Tests.{not-false, not-true}
 use lib.ListN.{length}
 use Rattle.canon.proofs.Folds.{P}
