@@ -131,6 +131,7 @@ Inner (mk a b x r) = (a b : ℕ) (S : Shape) → Node an_expr a b S → Shaped S
 
 parens_spoken : (c d : ℕ) (ks : Nodes) → c ≡ node_parens → Shaped (some_of an_expr) ks → Inner ks → Spoken (piece_of c d ks).toks
 unfolding formed forms pick both piece
+parens_spoken c d end e x3 f = elim x3 [ ]
 parens_spoken c d (mk a b x end) e (shaped_next {S = S} n s r) f = spoken_is (ap (λ z. (piece_of z d (mk a b x end)).toks) e ∙ ap (λ z. z.toks) (unwrapped_piece d a b x)) (f a b S n s)
 parens_spoken c d (mk a b x (mk a' b' x' r)) e (shaped_next n s t) f = spoken_is (ap (λ z. (piece_of z d (mk a b x (mk a' b' x' r))).toks) e ∙ ap (λ z. z.toks) (more_piece d a b x a' b' x' r)) spoken_here
 

@@ -492,7 +492,7 @@ there_code {C} {S} {c} {d} end p n s =
 there_code {C} {S} {c} {d} (mk a b x end) p n s =
     by_bool (eqb c node_parens)
     (λ e. let q = first_node (subst (λ z. Shaped z (mk a b x end)) (at_code node_parens n (eqb_eq c node_parens e)).1 s) in
-    subst (λ z. 0 < z.code) (sym (ap (λ z. piece_of z d (mk a b x end)) (eqb_eq c node_parens e) ∙ unwrapped_piece d a b x)) (there_code x refl q.1 q.2))
+    subst (λ z. 0 < z.code) (sym (ap (λ z. piece_of z d (mk a b x end)) (eqb_eq c node_parens e) ∙ unwrapped_piece d a b x)) (there_code {C = an_expr} x refl q.1 q.2))
     (λ e. subst (λ z. 0 < z) (sym (piece_code c d (mk a b x end) e)) (node_present n p))
 there_code {C} {S} {c} {d} (mk a b x (mk a' b' x' r)) p n s =
     by_bool (eqb c node_parens)

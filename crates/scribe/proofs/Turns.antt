@@ -15,7 +15,7 @@ use Rattle.kinds.specs.Kinds.{LP, RP, COMMA, WHEN, THEN}
 use Rattle.grammar.specs.NodeNames.{node_parens, node_values, node_case}
 use Rattle.grammar.specs.Nodes.{Nodes, end, count}
 use Rattle.grammar.specs.Reading.{choose}
-use Rattle.grammar.specs.Writing.{Piece, at, after, within, joined, parted, rows, node_str, tok}
+use Rattle.grammar.specs.Writing.{Piece, at, after as put_after, within, joined, parted, rows, node_str, tok}
 use Rattle.canon.proofs.Folds.{P, P_end}
 use Rattle.shapes.specs.Shape.{Class, a_from, a_source, a_join, an_expr, list_of, ◌▸◌, many_of, Shaped, shaped_more}
 use Rattle.scribe.proofs.Standing.{Stands, Puts}
@@ -242,7 +242,7 @@ module _ {N : List ℕ} {lane j n r to : ℕ} {A A' : List ℕ} {ts : List Tok} 
   pub case_condition : 3 < n → Maybe an_expr N (before_of N j)
   case_condition h = inl (last_pair h).condition
 
-  pub case_more : {A₂ A₃ : List ℕ} {r₂ r₃ j' n' : ℕ} → 3 < n → ((m : Maybe an_expr N j) → Puts lane A' A₂ r₂ r ((after) (tok THEN ∷ []) (may_piece m))) → ((m : Maybe an_expr N (before_of N j)) → Puts lane A₂ A₃ r₃ r₂ ((after) (tok WHEN ∷ []) (may_piece m)))
+  pub case_more : {A₂ A₃ : List ℕ} {r₂ r₃ j' n' : ℕ} → 3 < n → ((m : Maybe an_expr N j) → Puts lane A' A₂ r₂ r (put_after (tok THEN ∷ []) (may_piece m))) → ((m : Maybe an_expr N (before_of N j)) → Puts lane A₂ A₃ r₃ r₂ (put_after (tok WHEN ∷ []) (may_piece m)))
       → j' ≡ before_of N (before_of N j) → n' ≡ n - 2 → Yet case_toks (CaseRest N) lane A A₃ j' (n' - 1) r₃ to ts
   case_more h f g e q =
       let k = last_pair h in

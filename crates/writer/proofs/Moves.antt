@@ -11,7 +11,7 @@ use Rattle.theory.proofs.Cases.{0≢1, eqb-true, eqb_eq, by_bool}
 use Rattle.kinds.specs.Kinds.{AND, AS, BETWEEN, BY, CASE, CAST, DISTINCT, DOT, ELSE, END, EXISTS, FROM, GROUP, IN, LP, ON, ORDER, RP, STAR, USING}
 use Rattle.grammar.specs.NodeNames.{node_query, node_list, node_join, node_on, node_using, node_names, node_call, node_parens, node_subquery, node_exists, node_case, node_cast, node_prefix, node_binary, node_in_list, node_in_query, node_between}
 use Rattle.grammar.specs.Reading.{choose}
-use Rattle.grammar.specs.Writing.{at, after, within, parted, rows, grouped, binary_toks, binary_str, not_if, node_str, tok}
+use Rattle.grammar.specs.Writing.{at, after as put_after, within, parted, rows, grouped, binary_toks, binary_str, not_if, node_str, tok}
 use Rattle.canon.proofs.Folds.{P}
 use Rattle.shapes.specs.Shape.{Class, a_query, a_body, a_column, a_from, a_source, a_join, a_constraint, a_sort, an_expr, a_name, absence, list_of, any_of, empty_list, many_of, Shaped, shaped_more}
 use Rattle.scribe.proofs.Standing.{Puts}
@@ -112,7 +112,7 @@ not_none : (n : ℕ) → eqb n 0 ≡ false → n ≡ 0 → ⊥
 not_none n e q = absurd (0≢1 (sym e ∙ eqb-true n 0 q))
 
 module _ {N : List ℕ} {i : ℕ} where
-  pub order_perhaps : (m : Maybe (list_of a_sort) N i) → (b : Perhaps N i) × ((after) (tok ORDER ∷ tok BY ∷ []) (may_piece m) ≡ perhaps_toks ORDER N i b)
+  pub order_perhaps : (m : Maybe (list_of a_sort) N i) → (b : Perhaps N i) × (put_after (tok ORDER ∷ tok BY ∷ []) (may_piece m) ≡ perhaps_toks ORDER N i b)
   order_perhaps m =
       by_bool (eqb (children_at N i) 0)
       (λ e. let q = eqb_eq (children_at N i) 0 e in (not_any (may_there m).0 q, order_none (tok ORDER ∷ tok BY ∷ []) m q))
@@ -219,10 +219,10 @@ bounds_by {d = d} G p g low a h high =
 
 -- ── CASE, CAST, calls ──
 module _ {N : List ℕ} {i : ℕ} where
-  pub case_said : (w : Coded node_case N i) → coded_toks node_case N i w ≡ tok CASE ∷ (whens_toks N i w ++ ((after) (tok ELSE ∷ []) (may_piece (case_kids w.whole w.is).otherwise) ++ (tok END ∷ [])))
+  pub case_said : (w : Coded node_case N i) → coded_toks node_case N i w ≡ tok CASE ∷ (whens_toks N i w ++ (put_after (tok ELSE ∷ []) (may_piece (case_kids w.whole w.is).otherwise) ++ (tok END ∷ [])))
   case_said w =
       let k = case_kids w.whole w.is in
-      (case_spelt w.whole w.is).toks ∙ ap (λ z. tok CASE ∷ (z ++ (tok END ∷ []))) (case_ended k) ∙ ap (λ z. tok CASE ∷ z) (append_assoc (case_toks (P k.pairs)) ((after) (tok ELSE ∷ []) (may_piece k.otherwise)) (tok END ∷ []))
+      (case_spelt w.whole w.is).toks ∙ ap (λ z. tok CASE ∷ (z ++ (tok END ∷ []))) (case_ended k) ∙ ap (λ z. tok CASE ∷ z) (append_assoc (case_toks (P k.pairs)) (put_after (tok ELSE ∷ []) (may_piece k.otherwise)) (tok END ∷ []))
 
   abbrev pub cast_first : (w : Coded node_cast N i) → Whole an_expr N (before_of N (i - 1))
   cast_first w = (cast_kids w.whole w.is).first
@@ -230,7 +230,7 @@ module _ {N : List ℕ} {i : ℕ} where
   abbrev pub cast_type : (w : Coded node_cast N i) → Maybe a_name N (i - 1)
   cast_type w = inl (cast_kids w.whole w.is).second
 
-  pub cast_said : (w : Coded node_cast N i) → coded_toks node_cast N i w ≡ tok CAST ∷ tok LP ∷ (at 0 (piece_at (cast_first w)) ++ ((after) (tok AS ∷ []) (may_piece (cast_type w)) ++ (tok RP ∷ [])))
+  pub cast_said : (w : Coded node_cast N i) → coded_toks node_cast N i w ≡ tok CAST ∷ tok LP ∷ (at 0 (piece_at (cast_first w)) ++ (put_after (tok AS ∷ []) (may_piece (cast_type w)) ++ (tok RP ∷ [])))
   cast_said w =
       let k = cast_kids w.whole w.is in
       (cast_spelt w.whole w.is k).toks
