@@ -1,0 +1,186 @@
+use Rattle.reader.specs.Bounds.{rank}
+use Rattle.reader.proofs.Steps.{further, refused, ended, got_in, passed_on, opened, opening, opens_refused, one_on, same_answer, null_before, seen_as, opens_in}
+use borrow.Author.Rules.{rules}
+use native.Mathlib.Omega.{arith}
+use Prim.Native.Nat.{ℕ, ◌+◌, ◌<◌, ◌≤◌, ◌*◌, ◌-◌}
+use Rattle.reader.proofs.Laying.{took, left, misfit, next, at_once, is, isn't, goes, halts, topped, by_kind, laid, capped, halted, query_opened, queries_of_lem, by_walk, two_ways, ◌also◌, behind, loop_start, for_any, laid_joined, so, strength_of, differs, filled_as, no_left, no_right, closed, at_second, laid_as}
+use Rattle.descent.proofs.Walk.{expr_w, cols_w, leaf_w, operand_w, joins_w, deeper, dotted_w, list_w, ops_w, not_b, rows_w, terms_w, when_w}
+use Rattle.reader.specs.Laying.{one, is_bare, absences, Packed, Onward, Laid, Later, begins_join, literal_text}
+use Rattle.reader.proofs.KindTests.{between_in, between_out, bare_either, bare_neither, distinct_walk, deep_walk, indexed_heads_none, heads_call_lem, Sign, sign-is, no_sign, ops_walk, ops_goes, no_parts, select_walk, prefix_walk, no_tail}
+use Rattle.theory.specs.Table.{both}
+use mathlib.Core.Path.{ap, refl, sym, ◌∙◌, ◌≡◌, ap₂}
+use mathlib.Core.Logic.{⊎_elim, inl, inr}
+use lib.Dec.{leb, eqb, ltb}
+use Rattle.reader.specs.Bounds.{Asks, queries_of, kinds_of, texts_of, tokens, Within, Seen, got_of}
+use Rattle.theory.proofs.Cases.{le-leb, eqb-true, both_i}
+use borrow.Author.Tests.{lt-leb, ne_eqb, lt-ltb, le-ltb, not-false, not-true}
+use Rattle.kinds.specs.Kinds.{STAR, NOT}
+use Rattle.descent.proofs.Filling.{◌then◌, nothing}
+use mathlib.Core.List.{◌++◌, List, []}
+use lib.ListN.{length, get_or}
+use Rattle.grammar.specs.Limits.{Around}
+use Rattle.grammar.specs.Reading.{choose}
+use Rattle.kinds.specs.Classes.{literal_code, heads_call}
+use Rattle.reader.proofs.TwoLists.{like_text}
+use Rattle.reader.proofs.Operators.{Way, op_binary, op_inside, op_between, op_like, op_null, op_is, op_collate, op_postfix}
+use Rattle.kinds.specs.Strength.{prefix_of}
+use Rattle.reader.proofs.Tables.{strength_is}
+use Rattle.kinds.proofs.Small.{strength_small, prefix_small}
+use Rattle.reader.specs.declared.Step.{Step}
+use Rattle.reader.proofs.+walk.Given as goal
+
+abbrev pub decreases-after : goal.decreases-after
+decreases-after l = rank 0 l.io.now l.at
+
+abbrev pub decreases-among : goal.decreases-among
+decreases-among l = rank 0 l.io.now l.at
+
+abbrev pub decreases-binary : goal.decreases-binary
+decreases-binary l = rank 4 l.io.now l.at
+
+abbrev pub decreases-body : goal.decreases-body
+decreases-body l = rank 0 l.io.now l.at
+
+abbrev pub decreases-call : goal.decreases-call
+decreases-call l = rank 5 l.io.now l.at
+
+abbrev pub decreases-case : goal.decreases-case
+decreases-case l = rank 5 l.io.now l.at
+
+abbrev pub decreases-cased : goal.decreases-cased
+decreases-cased l = rank 4 l.io.now l.at
+
+abbrev pub decreases-cast : goal.decreases-cast
+decreases-cast l = rank 1 l.io.now l.at
+
+abbrev pub decreases-clause : goal.decreases-clause
+decreases-clause l = rank 0 l.io.now l.at
+
+abbrev pub decreases-col : goal.decreases-col
+decreases-col l = rank 4 l.io.now l.at
+
+abbrev pub decreases-cols : goal.decreases-cols
+decreases-cols l = rank 5 l.io.now l.from
+
+abbrev pub decreases-ex : goal.decreases-ex
+decreases-ex l = rank 2 l.io.now l.at
+
+abbrev pub decreases-exists : goal.decreases-exists
+decreases-exists l = rank 0 l.io.now l.at
+
+abbrev pub decreases-expr : goal.decreases-expr
+decreases-expr l = rank 3 l.io.now l.at
+
+abbrev pub decreases-from : goal.decreases-from
+decreases-from l = rank 0 l.io.now l.at
+
+abbrev pub decreases-group : goal.decreases-group
+decreases-group l = rank 0 l.io.now l.at
+
+abbrev pub decreases-joins : goal.decreases-joins
+decreases-joins l = rank 0 l.io.now l.from
+
+abbrev pub decreases-leaf : goal.decreases-leaf
+decreases-leaf l = rank 0 l.io.now l.at
+
+abbrev pub decreases-limit : goal.decreases-limit
+decreases-limit l = rank 0 l.io.now l.at
+
+abbrev pub decreases-list : goal.decreases-list
+decreases-list l = rank 4 l.io.now l.from
+
+abbrev pub decreases-on : goal.decreases-on
+decreases-on l = rank 0 l.io.now l.at
+
+abbrev pub decreases-op : goal.decreases-op
+decreases-op l = rank 0 l.io.now l.at
+
+abbrev pub decreases-operand : goal.decreases-operand
+decreases-operand l = rank 1 l.io.now l.at
+
+abbrev pub decreases-ops : goal.decreases-ops
+decreases-ops l = rank 1 l.io.now l.from
+
+abbrev pub decreases-paren : goal.decreases-paren
+decreases-paren l = rank 5 l.io.now l.at
+
+abbrev pub decreases-parts : goal.decreases-parts
+decreases-parts l = rank 1 l.io.now l.at
+
+abbrev pub decreases-query : goal.decreases-query
+decreases-query l = rank 1 l.io.now l.at
+
+abbrev pub decreases-range : goal.decreases-range
+decreases-range l = rank 4 l.io.now l.at
+
+abbrev pub decreases-row : goal.decreases-row
+decreases-row l = rank 0 l.io.now l.at
+
+abbrev pub decreases-rows : goal.decreases-rows
+decreases-rows l = rank 1 l.io.now l.from
+
+abbrev pub decreases-select : goal.decreases-select
+decreases-select l = rank 6 l.io.now l.at
+
+abbrev pub decreases-sign : goal.decreases-sign
+decreases-sign l = rank 0 l.io.now l.at
+
+abbrev pub decreases-sort : goal.decreases-sort
+decreases-sort l = rank 0 l.io.now l.from
+
+abbrev pub decreases-source : goal.decreases-source
+decreases-source l = rank 1 l.io.now l.at
+
+abbrev pub decreases-src : goal.decreases-src
+decreases-src l = rank 0 l.io.now l.at
+
+abbrev pub decreases-sub : goal.decreases-sub
+decreases-sub l = rank 2 l.io.now l.at
+
+abbrev pub decreases-tail : goal.decreases-tail
+decreases-tail l = rank 1 l.io.now l.at
+
+abbrev pub decreases-when : goal.decreases-when
+decreases-when l = rank 1 l.io.now l.from
+
+abbrev pub invariant-cols-loop-d : goal.invariant-cols-loop-d
+invariant-cols-loop-d l = ((l.at ≤ tokens l.io) × (l.from ≤ l.at) × (l.base ≤ l.made) × (l.made + 8 * l.from ≤ l.base + 8 * l.at) × (l.n + l.from ≤ l.at) × (length l.nodes ≡ length l.initial.nodes)) × ((a : Around) → Packed a 1 l.ask → Onward l.base l.made l.initial.nodes l.nodes (λ f. cols_w (kinds_of l.io) (texts_of l.io) f l.from a 0) (λ f. cols_w (kinds_of l.io) (texts_of l.io) f l.at a l.n))
+
+abbrev pub decreases-cols-loop-d : goal.decreases-cols-loop-d
+decreases-cols-loop-d l = tokens l.io - l.at
+
+abbrev pub invariant-joins-loop-kind : goal.invariant-joins-loop-kind
+invariant-joins-loop-kind l = ((l.at ≤ tokens l.io) × (l.from ≤ l.at) × (l.start ≤ l.made) × (l.made + 8 * l.from ≤ l.start + 8 * l.at) × (l.n + l.from ≤ l.at) × (length l.nodes ≡ length l.initial.nodes)) × ((a : Around) → Packed a 1 l.ask → Onward l.start l.made l.initial.nodes l.nodes (λ f. joins_w (kinds_of l.io) (texts_of l.io) f l.from a 0) (λ f. joins_w (kinds_of l.io) (texts_of l.io) f l.at a l.n))
+
+abbrev pub decreases-joins-loop-kind : goal.decreases-joins-loop-kind
+decreases-joins-loop-kind l = tokens l.io - l.at
+
+abbrev pub invariant-list-loop-d : goal.invariant-list-loop-d
+invariant-list-loop-d l = ((l.at ≤ tokens l.io) × (l.from ≤ l.at) × (l.start ≤ l.made) × (l.made + 8 * l.from ≤ l.start + 8 * l.at) × (l.n + l.from ≤ l.at) × (length l.nodes ≡ length l.initial.nodes)) × ((a : Around) → Packed a 1 l.ask → Onward l.start l.made l.initial.nodes l.nodes (λ f. list_w (kinds_of l.io) (texts_of l.io) f l.from a 0) (λ f. list_w (kinds_of l.io) (texts_of l.io) f l.at a l.n))
+
+abbrev pub decreases-list-loop-d : goal.decreases-list-loop-d
+decreases-list-loop-d l = tokens l.io - l.at
+
+abbrev pub invariant-ops-loop-kind : goal.invariant-ops-loop-kind
+invariant-ops-loop-kind l = ((l.at ≤ tokens l.io) × (l.from ≤ l.at) × (l.start ≤ l.made) × (l.made + 8 * l.from ≤ l.start + 8 * l.at) × (l.left ≤ 127) × (length l.nodes ≡ length l.initial.nodes)) × ((a : Around) (s₁ pre : ℕ) → Packed a s₁ l.ask → l.start ≡ l.base + pre → (r : Step) (N : List ℕ) → Later (λ f. (z : ℕ) → l.made ≡ l.base + z → Laid l.made l.nodes N (ops_w (kinds_of l.io) (texts_of l.io) f l.at a s₁ l.left z) r) → Later (λ f. Laid l.start l.initial.nodes N (ops_w (kinds_of l.io) (texts_of l.io) f l.from a s₁ l.first pre) r))
+
+abbrev pub decreases-ops-loop-kind : goal.decreases-ops-loop-kind
+decreases-ops-loop-kind l = tokens l.io - l.at
+
+abbrev pub invariant-rows-loop-n_d : goal.invariant-rows-loop-n_d
+invariant-rows-loop-n_d l = ((l.at ≤ tokens l.io) × (l.from ≤ l.at) × (l.base ≤ l.made) × (l.made + 8 * l.from ≤ l.base + 8 * l.at) × (l.rows + l.from ≤ l.at) × (length l.nodes ≡ length l.initial.nodes)) × ((a : Around) → Packed a 1 l.ask → Onward l.base l.made l.initial.nodes l.nodes (λ f. rows_w (kinds_of l.io) (texts_of l.io) f l.from a 0 0) (λ f. rows_w (kinds_of l.io) (texts_of l.io) f l.at a l.rows l.width))
+
+abbrev pub decreases-rows-loop-n_d : goal.decreases-rows-loop-n_d
+decreases-rows-loop-n_d l = tokens l.io - l.at
+
+abbrev pub invariant-sort-loop-d : goal.invariant-sort-loop-d
+invariant-sort-loop-d l = ((l.at ≤ tokens l.io) × (l.from + 1 ≤ l.at) × (l.base ≤ l.made) × (l.made + 8 * (l.from + 1) ≤ l.base + 8 * l.at) × (l.n + l.from + 1 ≤ l.at) × (length l.nodes ≡ length l.initial.nodes)) × ((a : Around) → Packed a 1 l.ask → Onward l.base l.made l.initial.nodes l.nodes (λ f. terms_w (kinds_of l.io) (texts_of l.io) f (l.from + 1) a 0) (λ f. terms_w (kinds_of l.io) (texts_of l.io) f l.at a l.n))
+
+abbrev pub decreases-sort-loop-d : goal.decreases-sort-loop-d
+decreases-sort-loop-d l = tokens l.io - l.at
+
+abbrev pub invariant-when-loop-c : goal.invariant-when-loop-c
+invariant-when-loop-c l = ((l.at ≤ tokens l.io) × (l.from ≤ l.at) × (l.start ≤ l.made) × (l.made + 8 * l.from ≤ l.start + 8 * l.at) × (l.n + l.from ≤ l.at) × (length l.nodes ≡ length l.initial.nodes)) × ((a : Around) → Packed a 1 l.ask → Onward l.start l.made l.initial.nodes l.nodes (λ f. when_w (kinds_of l.io) (texts_of l.io) f l.from a 0) (λ f. when_w (kinds_of l.io) (texts_of l.io) f l.at a l.n))
+
+abbrev pub decreases-when-loop-c : goal.decreases-when-loop-c
+decreases-when-loop-c l = tokens l.io - l.at

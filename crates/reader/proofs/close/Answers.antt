@@ -1,0 +1,15 @@
+use Rattle.reader.proofs.Steps.{ended, refused}
+use native.Mathlib.Omega.{arith}
+use borrow.Author.Rules.{rules}
+use Rattle.reader.proofs.Laying.{laid, took, left, misfit, closed, is, isn't}
+use Rattle.descent.proofs.Walk.{close_w}
+use mathlib.Core.Path.{refl}
+use Rattle.reader.proofs.close.Goals as goal
+
+pub returns-then-kind-ne-RP : goal.returns-then-kind-ne-RP
+unfolding close_w
+returns-then-kind-ne-RP c = (refused c.wrong.ensures.0 (omega arith), λ pre b. left _ _ _ (isn't c.peek-kind.ensures c.if-kind-ne-RP.true) (misfit c.peek-kind.ensures c.wrong.ensures.1))
+
+pub returns : goal.returns
+unfolding close_w
+returns c = (ended c.got.ensures (omega arith), λ pre b. took _ _ _ (is c.peek-kind.ensures c.if-kind-ne-RP.false) (laid c.got.ensures refl (closed _ pre b c.emit-m.ensures.1)))

@@ -1,0 +1,9 @@
+use Rattle.reader.specs.Bounds.{queries_of}
+use native.Mathlib.Omega.{arith}
+use borrow.Author.Rules.{rules}
+use Rattle.reader.proofs.Laying.{one_deeper}
+use Rattle.reader.proofs.deeper.Goals as goal
+
+pub returns : goal.returns
+unfolding queries_of
+returns c = (omega arith, record { packs = λ a s₀ p. one_deeper (c.asking.ensures.3.packs a s₀ p) })

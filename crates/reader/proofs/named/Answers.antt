@@ -1,0 +1,10 @@
+use borrow.Author.Rules.{rules}
+use Rattle.reader.proofs.Laying.{filled_as}
+use Rattle.grammar.specs.Nodes.{rec}
+use Rattle.kinds.specs.Classes.{name_code}
+use mathlib.Core.Path.{ap, ap₂, ◌∙◌}
+use mathlib.Core.List.{[], ◌∷◌}
+use Rattle.reader.proofs.named.Goals as goal
+
+pub returns : goal.returns
+returns c = (c.emit.ensures.0, λ k. filled_as (ap₂ (λ a b. rec a b 0 1 ∷ []) (c.name_code.ensures ∙ ap name_code k) c.text.ensures) c.emit.ensures.1)

@@ -1,0 +1,20 @@
+use borrow.Author.Rules.{rules}
+use Rattle.reader.proofs.Laying.{left}
+use Rattle.grammar.specs.Promise.{refusal_1, refusal_2}
+use Rattle.theory.proofs.Cases.{0≢1}
+use borrow.Author.Tests.{not-false, not-true}
+use mathlib.Core.Path.{refl, sym, ◌∙◌}
+use native.Mathlib.Omega.{arith}
+use Rattle.reader.proofs.read.Goals as goal
+
+pub returns-then-kinds-texts : goal.returns-then-kinds-texts
+returns-then-kinds-texts c = (refusal_1 (λ l. c.if-kinds-texts.true l.equal) refl refl refl, omega arith, omega arith)
+
+pub returns-then-kinds-gt-TOKENS : goal.returns-then-kinds-gt-TOKENS
+returns-then-kinds-gt-TOKENS c = (refusal_1 (λ l. omega (arith, l.short, c.if-kinds-gt-TOKENS.true)) refl refl refl, omega arith, omega arith)
+
+pub returns-then-not-all_fit : goal.returns-then-not-all_fit
+returns-then-not-all_fit c = (refusal_2 (record { equal = c.if-kinds-texts.false; short = c.if-kinds-gt-TOKENS.false }) (c.unfit.ensures.1 (λ u. 0≢1 (sym c.if-not-all_fit.true ∙ c.all_fit.ensures.2 u))) refl refl, omega (arith, c.unfit.ensures.0), omega arith)
+
+pub start-requires : goal.start-requires
+start-requires c = (record { equal = c.if-kinds-texts.false; short = c.if-kinds-gt-TOKENS.false }, c.all_fit.ensures.0 c.if-not-all_fit.false, c.all_fit.ensures.1 c.if-not-all_fit.false, c.strengths-table.ensures)
