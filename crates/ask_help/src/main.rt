@@ -1,6 +1,8 @@
 // `ask`, run with -h.
 #![tactic(auto)]
 
-fn main() {
-    asking::run();
+use std::io::Result;
+
+fn main(rt: HostRuntime) -> Result<()> {
+    asking::run(&rt, &rt.stderr())
 }

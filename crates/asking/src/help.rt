@@ -1,4 +1,6 @@
 // What `ask -h` says: a screenful, at most 24 lines of 80.
+use std::io::Result;
+
 const TEXT: [u8; 1253] =
     *b"ask reads SQL queries, given as tokens, one query a line, and answers each.
 Usage: ask [-v | -h] < LINES
@@ -26,14 +28,11 @@ Each line is answered, whatever became of those before it.
 The exit status is always 0: the answers say which lines were refused.
 ";
 
-pub fn tell() {
-    io::write_all(libc::STDOUT_FILENO, &TEXT);
+pub fn tell(out: &impl Print) -> Result<()> {
+    out.write_all(&TEXT)
 }
 
 // An argument that is none of ours.
-pub fn point() {
-    io::write_all(
-        libc::STDERR_FILENO,
-        b"ask: the options are -v and -h; ask -h says more\n",
-    );
+pub fn point(errors: &impl Print) -> Result<()> {
+    errors.write_all(b"ask: the options are -v and -h; ask -h says more\n")
 }

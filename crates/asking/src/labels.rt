@@ -2,6 +2,7 @@
 // reading has them.
 use crate::names::row;
 use report::{BLOCK, bytes, number, wide};
+use std::io::Result;
 
 // Names of codes, from 0 on.
 const CODES: [u8; 585] = *b"absent.......query........select.......values.......list.........\
@@ -57,38 +58,63 @@ const IN_LIST: u32 = 41;
 const BETWEEN: u32 = 43;
 
 // A record: its name, and its detail in words.
-pub fn record(block: &mut [u8; BLOCK], waiting: usize, code: u32, detail: u32) -> usize {
-    let denied = negation(block, waiting, code, detail);
-    let named = row(block, denied, &CODES, code as usize * 13, 13);
+pub fn record(
+    out: &impl Print,
+    block: &mut [u8; BLOCK],
+    waiting: usize,
+    code: u32,
+    detail: u32,
+) -> Result<usize> {
+    let denied = negation(out, block, waiting, code, detail)?;
+    let named = row(out, block, denied, &CODES, code as usize * 13, 13)?;
     match code {
-        SELECT | COLUMN | CALL => one_word(block, named, code, detail),
-        JOIN => join(block, named, detail),
-        TABLE | INNER_QUERY => source(block, named, detail % 4, detail / 4),
-        SORT => sort(block, named, detail % 4, detail / 4),
-        NAME..=CTIME => text(block, named, code, detail),
-        PREFIX..=POSTFIX => operator(block, named, detail),
-        _ => named,
+        SELECT | COLUMN | CALL => one_word(out, block, named, code, detail),
+        JOIN => join(out, block, named, detail),
+        TABLE | INNER_QUERY => source(out, block, named, detail % 4, detail / 4),
+        SORT => sort(out, block, named, detail % 4, detail / 4),
+        NAME..=CTIME => text(out, block, named, code, detail),
+        PREFIX..=POSTFIX => operator(out, block, named, detail),
+        _ => Ok(named),
     }
 }
 
 // NOT before IN and BETWEEN.
-fn negation(block: &mut [u8; BLOCK], waiting: usize, code: u32, detail: u32) -> usize {
+fn negation(
+    out: &impl Print,
+    block: &mut [u8; BLOCK],
+    waiting: usize,
+    code: u32,
+    detail: u32,
+) -> Result<usize> {
     match code {
-        IN_LIST..=BETWEEN => flag(block, waiting, detail, b"NOT "),
-        _ => waiting,
+        IN_LIST..=BETWEEN => flag(out, block, waiting, detail, b"NOT "),
+        _ => Ok(waiting),
     }
 }
 
-fn flag(block: &mut [u8; BLOCK], waiting: usize, bit: u32, word: &[u8]) -> usize {
+fn flag(
+    out: &impl Print,
+    block: &mut [u8; BLOCK],
+    waiting: usize,
+    bit: u32,
+    word: &[u8],
+) -> Result<usize> {
     if bit == 0 {
-        return waiting;
+        return Ok(waiting);
     }
-    bytes(block, waiting, word)
+    bytes(out, block, waiting, word)
 }
 
-fn one_word(block: &mut [u8; BLOCK], waiting: usize, code: u32, detail: u32) -> usize {
+fn one_word(
+    out: &impl Print,
+    block: &mut [u8; BLOCK],
+    waiting: usize,
+    code: u32,
+    detail: u32,
+) -> Result<usize> {
     match code {
         SELECT => row(
+            out,
             block,
             waiting,
             b"......... DISTINCT ALL.....",
@@ -96,18 +122,20 @@ fn one_word(block: &mut [u8; BLOCK], waiting: usize, code: u32, detail: u32) -> 
             9,
         ),
         CALL => row(
+            out,
             block,
             waiting,
             b"......... DISTINCT STAR....",
             detail as usize * 9,
             9,
         ),
-        _ => alias(block, waiting, detail),
+        _ => alias(out, block, waiting, detail),
     }
 }
 
-fn alias(block: &mut [u8; BLOCK], waiting: usize, mode: u32) -> usize {
+fn alias(out: &impl Print, block: &mut [u8; BLOCK], waiting: usize, mode: u32) -> Result<usize> {
     row(
+        out,
         block,
         waiting,
         b"........... AS........ bare alias",
@@ -117,19 +145,31 @@ fn alias(block: &mut [u8; BLOCK], waiting: usize, mode: u32) -> usize {
 }
 
 // COMMA, or the words that the flags stand for.
-fn join(block: &mut [u8; BLOCK], waiting: usize, detail: u32) -> usize {
+fn join(out: &impl Print, block: &mut [u8; BLOCK], waiting: usize, detail: u32) -> Result<usize> {
     if detail == 0 {
-        return bytes(block, waiting, b" COMMA");
+        return bytes(out, block, waiting, b" COMMA");
     }
-    let natural = flag(block, waiting, detail & words::NATURAL_BIT, b" NATURAL");
+    let natural = flag(
+        out,
+        block,
+        waiting,
+        detail & words::NATURAL_BIT,
+        b" NATURAL",
+    )?;
     let sides = (detail & (words::LEFT_BIT | words::RIGHT_BIT)) / words::LEFT_BIT;
-    let sided = side(block, natural, sides);
-    let outer = flag(block, sided, detail & words::OUTER_BIT, b" OUTER");
-    inner(block, outer, detail & (words::INNER_BIT | words::CROSS_BIT))
+    let sided = side(out, block, natural, sides)?;
+    let outer = flag(out, block, sided, detail & words::OUTER_BIT, b" OUTER")?;
+    inner(
+        out,
+        block,
+        outer,
+        detail & (words::INNER_BIT | words::CROSS_BIT),
+    )
 }
 
-fn side(block: &mut [u8; BLOCK], waiting: usize, n: u32) -> usize {
+fn side(out: &impl Print, block: &mut [u8; BLOCK], waiting: usize, n: u32) -> Result<usize> {
     row(
+        out,
         block,
         waiting,
         b"...... LEFT. RIGHT FULL.",
@@ -138,8 +178,9 @@ fn side(block: &mut [u8; BLOCK], waiting: usize, n: u32) -> usize {
     )
 }
 
-fn inner(block: &mut [u8; BLOCK], waiting: usize, n: u32) -> usize {
+fn inner(out: &impl Print, block: &mut [u8; BLOCK], waiting: usize, n: u32) -> Result<usize> {
     row(
+        out,
         block,
         waiting,
         b"...... INNER CROSS CROSS",
@@ -149,9 +190,16 @@ fn inner(block: &mut [u8; BLOCK], waiting: usize, n: u32) -> usize {
 }
 
 // A table, or a query in FROM.
-fn source(block: &mut [u8; BLOCK], waiting: usize, mode: u32, index: u32) -> usize {
-    let at = alias(block, waiting, mode);
+fn source(
+    out: &impl Print,
+    block: &mut [u8; BLOCK],
+    waiting: usize,
+    mode: u32,
+    index: u32,
+) -> Result<usize> {
+    let at = alias(out, block, waiting, mode)?;
     row(
+        out,
         block,
         at,
         b"............ INDEXED BY. NOT INDEXED",
@@ -160,15 +208,23 @@ fn source(block: &mut [u8; BLOCK], waiting: usize, mode: u32, index: u32) -> usi
     )
 }
 
-fn sort(block: &mut [u8; BLOCK], waiting: usize, direction: u32, nulls: u32) -> usize {
+fn sort(
+    out: &impl Print,
+    block: &mut [u8; BLOCK],
+    waiting: usize,
+    direction: u32,
+    nulls: u32,
+) -> Result<usize> {
     let at = row(
+        out,
         block,
         waiting,
         b"..... ASC. DESC",
         direction as usize * 5,
         5,
-    );
+    )?;
     row(
+        out,
         block,
         at,
         b"............ NULLS FIRST NULLS LAST.",
@@ -178,23 +234,34 @@ fn sort(block: &mut [u8; BLOCK], waiting: usize, direction: u32, nulls: u32) -> 
 }
 
 // The text number of a name or a literal.
-fn text(block: &mut [u8; BLOCK], waiting: usize, code: u32, n: u32) -> usize {
-    let marked = bytes(block, waiting, b" #");
-    let at = number(block, marked, wide(n));
+fn text(
+    out: &impl Print,
+    block: &mut [u8; BLOCK],
+    waiting: usize,
+    code: u32,
+    n: u32,
+) -> Result<usize> {
+    let marked = bytes(out, block, waiting, b" #")?;
+    let at = number(out, block, marked, wide(n))?;
     match code {
-        STRING_NAME => bytes(block, at, b" from STRING"),
-        INDEXED_NAME => bytes(block, at, b" from INDEXED"),
+        STRING_NAME => bytes(out, block, at, b" from STRING"),
+        INDEXED_NAME => bytes(out, block, at, b" from INDEXED"),
         JOIN_NAME => {
-            let from = bytes(block, at, b" from JOIN_KW ");
-            crate::names::join_word(block, from, n)
+            let from = bytes(out, block, at, b" from JOIN_KW ")?;
+            crate::names::join_word(out, block, from, n)
         }
-        _ => at,
+        _ => Ok(at),
     }
 }
 
-fn operator(block: &mut [u8; BLOCK], waiting: usize, detail: u32) -> usize {
-    let parted = bytes(block, waiting, b" ");
-    crate::names::operator(block, parted, detail)
+fn operator(
+    out: &impl Print,
+    block: &mut [u8; BLOCK],
+    waiting: usize,
+    detail: u32,
+) -> Result<usize> {
+    let parted = bytes(out, block, waiting, b" ")?;
+    crate::names::operator(out, block, parted, detail)
 }
 
 // Names of parts, from 0 on. A part that its record itself names has none.
@@ -294,7 +361,7 @@ fn case_part(before: u32, count: u32) -> u32 {
     if before == 0 {
         return BASE;
     }
-    if std::num::wrapping_add_u32(before, 1) == count {
+    if before.wrapping_add(1) == count {
         return ELSE;
     }
     if before % 2 == 1 { WHEN } else { THEN }
@@ -308,6 +375,11 @@ fn bound(before: u32) -> u32 {
     }
 }
 
-pub fn part_name(block: &mut [u8; BLOCK], waiting: usize, part: u32) -> usize {
-    row(block, waiting, &PARTS, part as usize * 11, 11)
+pub fn part_name(
+    out: &impl Print,
+    block: &mut [u8; BLOCK],
+    waiting: usize,
+    part: u32,
+) -> Result<usize> {
+    row(out, block, waiting, &PARTS, part as usize * 11, 11)
 }

@@ -13,6 +13,8 @@ mod writing;
 use lines::Line;
 use reading::Reading;
 use report::{BLOCK, byte, bytes, number};
+use std::env::{Env, FillError};
+use std::io::{Read, Result};
 use unread::Misfit;
 
 // The line that is being read, its number from 1, its last two bytes up to the first that did not fit, how many
@@ -39,76 +41,103 @@ fn begun(row: u64, waiting: usize) -> Now {
 }
 
 // The line's number, before what is said of it in words.
-fn heading(block: &mut [u8; BLOCK], waiting: usize, row: u64) -> usize {
-    let named = bytes(block, waiting, b"line ");
-    number(block, named, row)
+fn heading(out: &impl Print, block: &mut [u8; BLOCK], waiting: usize, row: u64) -> Result<usize> {
+    let named = bytes(out, block, waiting, b"line ")?;
+    number(out, block, named, row)
 }
 
 // Writes to standard error what stands first in the block.
-fn complain(block: &[u8; BLOCK], count: usize) {
+fn complain(errors: &impl Print, block: &[u8; BLOCK], count: usize) -> Result<()> {
     let all: &[u8] = block;
     let n = report::least(count, all.len());
-    io::write_all(libc::STDERR_FILENO, &all[..n]);
+    errors.write_all(&all[..n])
 }
 
 // The line is neither form, or asks for too much: where, and why.
-fn misread(block: &mut [u8; BLOCK], waiting: usize, row: u64, line: Line, m: Misfit) -> usize {
-    let head = heading(block, waiting, row);
-    let named = bytes(block, head, b", byte ");
-    let placed = number(block, named, line.column);
-    let parted = bytes(block, placed, b": ");
-    let end = unread::reason(block, parted, m, lines::is_room(line));
-    byte(block, end, b'\n')
+fn misread(
+    out: &impl Print,
+    block: &mut [u8; BLOCK],
+    waiting: usize,
+    row: u64,
+    line: Line,
+    m: Misfit,
+) -> Result<usize> {
+    let head = heading(out, block, waiting, row)?;
+    let named = bytes(out, block, head, b", byte ")?;
+    let placed = number(out, block, named, line.column)?;
+    let parted = bytes(out, block, placed, b": ")?;
+    let end = unread::reason(out, block, parted, m, lines::is_room(line))?;
+    byte(out, block, end, b'\n')
 }
 
 // In words, or else on standard output just the byte's place, and the words on standard error.
 fn unreadable(
+    out: &impl Print,
+    errors: &impl Print,
     block: &mut [u8; BLOCK],
     waiting: usize,
     row: u64,
     line: Line,
     m: Misfit,
     aloud: bool,
-) -> usize {
+) -> Result<usize> {
     if aloud {
-        return misread(block, waiting, row, line, m);
+        return misread(out, block, waiting, row, line, m);
     }
-    report::flush(block, waiting);
-    let end = misread(block, 0, row, line, m);
-    complain(block, end);
-    let named = bytes(block, 0, b"? at ");
-    let at = number(block, named, line.column);
-    byte(block, at, b'\n')
+    report::flush(out, block, waiting)?;
+    let end = misread(out, block, 0, row, line, m)?;
+    complain(errors, block, end)?;
+    let named = bytes(out, block, 0, b"? at ")?;
+    let at = number(out, block, named, line.column)?;
+    byte(out, block, at, b'\n')
 }
 
 // A number that the reader had no right to change.
-fn spoiled(block: &mut [u8; BLOCK], waiting: usize, index: usize) -> usize {
-    let named = bytes(block, waiting, b"! table changed at ");
-    let at = number(block, named, index as u64);
-    byte(block, at, b'\n')
+fn spoiled(
+    out: &impl Print,
+    block: &mut [u8; BLOCK],
+    waiting: usize,
+    index: usize,
+) -> Result<usize> {
+    let named = bytes(out, block, waiting, b"! table changed at ")?;
+    let at = number(out, block, named, index as u64)?;
+    byte(out, block, at, b'\n')
 }
 
 // The records, each after a blank, its numbers parted by commas.
-fn records(block: &mut [u8; BLOCK], waiting: usize, nodes: &[u32], count: usize) -> usize {
+fn records(
+    out: &impl Print,
+    block: &mut [u8; BLOCK],
+    waiting: usize,
+    nodes: &[u32],
+    count: usize,
+) -> Result<usize> {
     let end = report::within(count, nodes);
     let mut at = waiting;
     let mut i = 0;
     while i < end {
-        at = byte(block, at, if i % 4 == 0 { b' ' } else { b',' });
-        at = number(block, at, report::wide(nodes[i]));
+        at = byte(out, block, at, if i % 4 == 0 { b' ' } else { b',' })?;
+        at = number(out, block, at, report::wide(nodes[i]))?;
         i += 1;
     }
-    at
+    Ok(at)
 }
 
-fn two(block: &mut [u8; BLOCK], waiting: usize, n: u32, place: usize) -> usize {
-    let one = number(block, waiting, n as u64);
-    let at = byte(block, one, b' ');
-    number(block, at, place as u64)
+fn two(
+    out: &impl Print,
+    block: &mut [u8; BLOCK],
+    waiting: usize,
+    n: u32,
+    place: usize,
+) -> Result<usize> {
+    let one = number(out, block, waiting, n as u64)?;
+    let at = byte(out, block, one, b' ')?;
+    number(out, block, at, place as u64)
 }
 
 // Writes the answer to a line of the first form, with the records and the writing of an acceptance.
 fn in_full<'a>(
+    out: &impl Print,
     block: &mut [u8; BLOCK],
     waiting: usize,
     line: Line,
@@ -116,18 +145,19 @@ fn in_full<'a>(
     kinds: &'a [u32],
     texts: &'a [u32],
     nodes: &mut [u32],
-) -> usize {
-    let at = two(block, waiting, r.number, r.place);
+) -> Result<usize> {
+    let at = two(out, block, waiting, r.number, r.place)?;
     if r.number > 0 {
-        return byte(block, at, b'\n');
+        return byte(out, block, at, b'\n');
     }
-    let parted = bytes(block, at, b" :");
-    let end = records(block, parted, nodes, r.used);
-    writing::tell(block, end, line, kinds, texts, nodes, writing::FULL)
+    let parted = bytes(out, block, at, b" :")?;
+    let end = records(out, block, parted, nodes, r.used)?;
+    writing::tell(out, block, end, line, kinds, texts, nodes, writing::FULL)
 }
 
 // To one of the second form.
 fn in_short<'a>(
+    out: &impl Print,
     block: &mut [u8; BLOCK],
     waiting: usize,
     line: Line,
@@ -135,14 +165,15 @@ fn in_short<'a>(
     kinds: &'a [u32],
     texts: &'a [u32],
     nodes: &mut [u32],
-) -> usize {
-    let named = bytes(block, waiting, b"R ");
-    let at = two(block, named, r.number, r.place);
-    writing::tell(block, at, line, kinds, texts, nodes, writing::SHORT)
+) -> Result<usize> {
+    let named = bytes(out, block, waiting, b"R ")?;
+    let at = two(out, block, named, r.number, r.place)?;
+    writing::tell(out, block, at, line, kinds, texts, nodes, writing::SHORT)
 }
 
 // In words: a refusal with its token, an accepted reading as a tree with the writing below it.
 fn in_words<'a>(
+    out: &impl Print,
     block: &mut [u8; BLOCK],
     waiting: usize,
     row: u64,
@@ -151,21 +182,22 @@ fn in_words<'a>(
     kinds: &'a [u32],
     texts: &'a [u32],
     nodes: &mut [u32],
-) -> usize {
-    let head = heading(block, waiting, row);
-    let parted = bytes(block, head, b": ");
+) -> Result<usize> {
+    let head = heading(out, block, waiting, row)?;
+    let parted = bytes(out, block, head, b": ")?;
     if r.number > 0 {
-        let end = refusals::refused(block, parted, r, line, kinds, texts);
-        return byte(block, end, b'\n');
+        let end = refusals::refused(out, block, parted, r, line, kinds, texts)?;
+        return byte(out, block, end, b'\n');
     }
-    let said = bytes(block, parted, b"accepted, ");
-    let counted = refusals::many(block, said, r.place, b"record");
-    let begun = byte(block, counted, b'\n');
-    let drawn = tree::draw(block, begun, nodes, r.place);
-    writing::tell(block, drawn, line, kinds, texts, nodes, writing::WORDS)
+    let said = bytes(out, block, parted, b"accepted, ")?;
+    let counted = refusals::many(out, block, said, r.place, b"record")?;
+    let begun = byte(out, block, counted, b'\n')?;
+    let drawn = tree::draw(out, block, begun, nodes, r.place)?;
+    writing::tell(out, block, drawn, line, kinds, texts, nodes, writing::WORDS)
 }
 
 fn write<'a>(
+    out: &impl Print,
     block: &mut [u8; BLOCK],
     waiting: usize,
     row: u64,
@@ -175,21 +207,22 @@ fn write<'a>(
     texts: &'a [u32],
     nodes: &mut [u32],
     aloud: bool,
-) -> usize {
+) -> Result<usize> {
     if !r.kept {
-        return spoiled(block, waiting, r.changed);
+        return spoiled(out, block, waiting, r.changed);
     }
     if aloud {
-        return in_words(block, waiting, row, line, r, kinds, texts, nodes);
+        return in_words(out, block, waiting, row, line, r, kinds, texts, nodes);
     }
     if lines::is_room(line) {
-        return in_short(block, waiting, line, r, kinds, texts, nodes);
+        return in_short(out, block, waiting, line, r, kinds, texts, nodes);
     }
-    in_full(block, waiting, line, r, kinds, texts, nodes)
+    in_full(out, block, waiting, line, r, kinds, texts, nodes)
 }
 
 // Answers a command. The table is clear before and after.
 fn answer<'a>(
+    out: &impl Print,
     row: u64,
     line: Line,
     kinds: &'a [u32],
@@ -198,22 +231,26 @@ fn answer<'a>(
     block: &mut [u8; BLOCK],
     waiting: usize,
     aloud: bool,
-) -> usize {
+) -> Result<usize> {
     let r = reading::of_line(line, kinds, texts, nodes);
-    let at = write(block, waiting, row, line, r, kinds, texts, nodes, aloud);
+    let at = write(
+        out, block, waiting, row, line, r, kinds, texts, nodes, aloud,
+    );
     reading::clear(r, nodes);
     at
 }
 
 // A line's end has come.
 fn ended<'a>(
+    out: &impl Print,
+    errors: &impl Print,
     now: Now,
     kinds: &'a [u32],
     texts: &'a [u32],
     nodes: &mut [u32],
     block: &mut [u8; BLOCK],
     aloud: bool,
-) -> usize {
+) -> Result<usize> {
     let taken = now.line;
     let line = lines::ended(taken);
     if lines::is_wrong(taken) {
@@ -221,16 +258,17 @@ fn ended<'a>(
             byte: now.last,
             before: now.before,
         };
-        return unreadable(block, now.waiting, now.row, line, m, aloud);
+        return unreadable(out, errors, block, now.waiting, now.row, line, m, aloud);
     }
     if lines::is_wrong(line) {
         let m = Misfit {
             byte: b'\n',
             before: now.last,
         };
-        return unreadable(block, now.waiting, now.row, line, m, aloud);
+        return unreadable(out, errors, block, now.waiting, now.row, line, m, aloud);
     }
     answer(
+        out,
         now.row,
         line,
         kinds,
@@ -260,6 +298,8 @@ fn taken(old: Now, b: u8, kinds: &mut [u32], texts: &mut [u32]) -> Now {
 
 // A byte of the input.
 fn one(
+    out: &impl Print,
+    errors: &impl Print,
     old: Now,
     b: u8,
     kinds: &mut [u32],
@@ -267,15 +307,17 @@ fn one(
     nodes: &mut [u32],
     block: &mut [u8; BLOCK],
     aloud: bool,
-) -> Now {
+) -> Result<Now> {
     if b == b'\n' {
-        let waiting = ended(old, kinds, texts, nodes, block, aloud);
-        return begun(std::num::wrapping_add_u64(old.row, 1), waiting);
+        let waiting = ended(out, errors, old, kinds, texts, nodes, block, aloud)?;
+        return Ok(begun(old.row.wrapping_add(1), waiting));
     }
-    taken(old, b, kinds, texts)
+    Ok(taken(old, b, kinds, texts))
 }
 
 fn fed(
+    out: &impl Print,
+    errors: &impl Print,
     input: &[u8],
     old: Now,
     kinds: &mut [u32],
@@ -283,14 +325,16 @@ fn fed(
     nodes: &mut [u32],
     block: &mut [u8; BLOCK],
     aloud: bool,
-) -> Now {
+) -> Result<Now> {
     let mut now = old;
     let mut i = 0;
     while i < input.len() {
-        now = one(now, input[i], kinds, texts, nodes, block, aloud);
+        now = one(
+            out, errors, now, input[i], kinds, texts, nodes, block, aloud,
+        )?;
         i += 1;
     }
-    now
+    Ok(now)
 }
 
 // Nothing waits, and there may be no more to read.
@@ -308,83 +352,101 @@ fn written(old: Now, more: bool) -> Now {
 
 // Reads once, and answers each line that ends in what came; whoever types a line has the answer before the next.
 fn some(
+    input: &mut impl Read,
+    out: &impl Print,
+    errors: &impl Print,
     old: Now,
     kinds: &mut [u32],
     texts: &mut [u32],
     nodes: &mut [u32],
     block: &mut [u8; BLOCK],
     aloud: bool,
-) -> Now {
-    let mut buffer = io::large_buffer();
-    let got = libc::read(libc::STDIN_FILENO, &mut buffer);
-    if got < 0 {
-        os::fail(b"standard input");
-    }
-    let n = io::count(got, &buffer);
-    let now = fed(&buffer[..n], old, kinds, texts, nodes, block, aloud);
-    report::flush(block, now.waiting);
-    written(now, n > 0)
+) -> Result<Now> {
+    let mut buffer = [0u8; 65536];
+    let n = input.read(&mut buffer)?;
+    let now = fed(
+        out,
+        errors,
+        &buffer[..n],
+        old,
+        kinds,
+        texts,
+        nodes,
+        block,
+        aloud,
+    )?;
+    report::flush(out, block, now.waiting)?;
+    Ok(written(now, n > 0))
 }
 
 // The last line may lack its end.
 fn last<'a>(
+    out: &impl Print,
+    errors: &impl Print,
     now: Now,
     kinds: &'a [u32],
     texts: &'a [u32],
     nodes: &mut [u32],
     block: &mut [u8; BLOCK],
     aloud: bool,
-) -> usize {
+) -> Result<usize> {
     let line = now.line;
     if line.column == 0 {
-        return now.waiting;
+        return Ok(now.waiting);
     }
-    ended(now, kinds, texts, nodes, block, aloud)
+    ended(out, errors, now, kinds, texts, nodes, block, aloud)
 }
 
 // All of the input. A proved loop has to end, so it counts its turns, from a number that no run uses up.
 fn all(
+    input: &mut impl Read,
+    out: &impl Print,
+    errors: &impl Print,
     kinds: &mut [u32],
     texts: &mut [u32],
     nodes: &mut [u32],
     block: &mut [u8; BLOCK],
     aloud: bool,
-) {
+) -> Result<()> {
     let mut now = begun(1, 0);
     let mut turns = u64::MAX;
     while turns > 0 && now.more {
-        now = some(now, kinds, texts, nodes, block, aloud);
+        now = some(input, out, errors, now, kinds, texts, nodes, block, aloud)?;
         turns -= 1;
     }
-    let waiting = last(now, kinds, texts, nodes, block, aloud);
-    report::flush(block, waiting);
+    let waiting = last(out, errors, now, kinds, texts, nodes, block, aloud)?;
+    report::flush(out, block, waiting)
 }
 
 // Answers each line, in words where `aloud`.
-fn listen(aloud: bool) {
+fn listen(rt: &(impl Input + Print), errors: &impl Print, aloud: bool) -> Result<()> {
     let mut kinds = [0u32; lines::TOKENS];
     let mut texts = [0u32; lines::TOKENS];
     let mut nodes = [0u32; lines::TABLE as usize];
-    let mut block = io::large_buffer();
-    all(&mut kinds, &mut texts, &mut nodes, &mut block, aloud);
+    let mut block = [0u8; BLOCK];
+    let mut input = rt.reader();
+    all(
+        &mut input, rt, errors, &mut kinds, &mut texts, &mut nodes, &mut block, aloud,
+    )
 }
 
 // Does what the arguments ask.
-pub fn run() {
-    if os::arg_count() < 2 {
-        listen(false);
-        return;
-    }
+pub fn run(rt: &(impl Env + Input + Print), errors: &impl Print) -> Result<()> {
     let mut word = [0u8; 2];
-    let n = os::arg(1, &mut word);
-    let letter = if n == 2 && word[0] == b'-' {
-        word[1]
-    } else {
-        0
-    };
-    match letter {
-        b'v' => listen(true),
-        b'h' => help::tell(),
-        _ => help::point(),
+    match rt.arg(1, &mut word) {
+        Err(FillError::NotPresent) => listen(rt, errors, false),
+        Err(FillError::TooLong) => help::point(errors),
+        Ok(n) => {
+            let letter = if n == 2 && word[0] == b'-' {
+                word[1]
+            } else {
+                0
+            };
+            match letter {
+                b'v' => listen(rt, errors, true),
+                b'h' => help::tell(rt),
+                _ => help::point(errors),
+            }
+        }
     }
 }

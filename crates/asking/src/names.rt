@@ -1,6 +1,7 @@
 // Names of kinds, join words and operators. A table of names has rows of equal width, filled up with dots. Each
 // function takes how many bytes of the block wait, and answers how many wait then.
 use report::{BLOCK, byte, bytes};
+use std::io::Result;
 
 // Kinds, as document 01 has them, from 0 on.
 const KINDS: [u8; 576] =
@@ -25,58 +26,70 @@ fn at(table: &[u8], i: usize) -> u8 {
 
 // The row of a table of names that has so many bytes before it; nothing where there is none.
 pub fn row(
+    out: &impl Print,
     block: &mut [u8; BLOCK],
     waiting: usize,
     table: &[u8],
     start: usize,
     width: u8,
-) -> usize {
+) -> Result<usize> {
     let mut now = waiting;
     let mut i: u8 = 0;
     while i < width {
-        let b = at(table, std::num::wrapping_add_usize(start, i as usize));
+        let b = at(table, start.wrapping_add(i as usize));
         if b == b'.' {
-            return now;
+            return Ok(now);
         }
-        now = byte(block, now, b);
+        now = byte(out, block, now, b)?;
         i += 1;
     }
-    now
+    Ok(now)
 }
 
-pub fn kind(block: &mut [u8; BLOCK], waiting: usize, k: u32) -> usize {
-    row(block, waiting, &KINDS, k as usize * 8, 8)
+pub fn kind(out: &impl Print, block: &mut [u8; BLOCK], waiting: usize, k: u32) -> Result<usize> {
+    row(out, block, waiting, &KINDS, k as usize * 8, 8)
 }
 
-pub fn join_word(block: &mut [u8; BLOCK], waiting: usize, text: u32) -> usize {
-    row(block, waiting, &WORDS, text as usize * 7, 7)
+pub fn join_word(
+    out: &impl Print,
+    block: &mut [u8; BLOCK],
+    waiting: usize,
+    text: u32,
+) -> Result<usize> {
+    row(out, block, waiting, &WORDS, text as usize * 7, 7)
 }
 
 // A prefix or binary operator, by the detail of its record.
-pub fn operator(block: &mut [u8; BLOCK], waiting: usize, detail: u32) -> usize {
+pub fn operator(
+    out: &impl Print,
+    block: &mut [u8; BLOCK],
+    waiting: usize,
+    detail: u32,
+) -> Result<usize> {
     match detail {
         kinds::STAR..=kinds::GE => row(
+            out,
             block,
             waiting,
             &SIGNS,
             (detail - kinds::STAR) as usize * 2,
             2,
         ),
-        137 => bytes(block, waiting, b"IS NOT"),
-        201..=203 => like(block, waiting, detail - 200),
+        137 => bytes(out, block, waiting, b"IS NOT"),
+        201..=203 => like(out, block, waiting, detail - 200),
         301..=303 => {
-            let not = bytes(block, waiting, b"NOT ");
-            like(block, not, detail - 300)
+            let not = bytes(out, block, waiting, b"NOT ")?;
+            like(out, block, not, detail - 300)
         }
-        _ => kind(block, waiting, detail),
+        _ => kind(out, block, waiting, detail),
     }
 }
 
 // The word of a LIKE_KW.
-pub fn like(block: &mut [u8; BLOCK], waiting: usize, text: u32) -> usize {
+pub fn like(out: &impl Print, block: &mut [u8; BLOCK], waiting: usize, text: u32) -> Result<usize> {
     match text {
-        1 => bytes(block, waiting, b"LIKE"),
-        2 => bytes(block, waiting, b"GLOB"),
-        _ => bytes(block, waiting, b"REGEXP"),
+        1 => bytes(out, block, waiting, b"LIKE"),
+        2 => bytes(out, block, waiting, b"GLOB"),
+        _ => bytes(out, block, waiting, b"REGEXP"),
     }
 }

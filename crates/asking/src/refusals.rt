@@ -3,6 +3,7 @@ use kinds::{JOIN_KW, LIKE_KW};
 use lines::Line;
 use reading::Reading;
 use report::{BLOCK, byte, bytes, number, wide};
+use std::io::Result;
 
 // The number at a place of a list, 0 beyond its end.
 fn at(list: &[u32], place: usize) -> u32 {
@@ -10,104 +11,141 @@ fn at(list: &[u32], place: usize) -> u32 {
 }
 
 // So many of something.
-pub fn many(block: &mut [u8; BLOCK], waiting: usize, count: usize, what: &[u8]) -> usize {
-    let counted = number(block, waiting, count as u64);
-    let parted = byte(block, counted, b' ');
-    let named = bytes(block, parted, what);
+pub fn many(
+    out: &impl Print,
+    block: &mut [u8; BLOCK],
+    waiting: usize,
+    count: usize,
+    what: &[u8],
+) -> Result<usize> {
+    let counted = number(out, block, waiting, count as u64)?;
+    let parted = byte(out, block, counted, b' ')?;
+    let named = bytes(out, block, parted, what)?;
     if count == 1 {
-        return named;
+        return Ok(named);
     }
-    byte(block, named, b's')
+    byte(out, block, named, b's')
 }
 
 pub fn refused<'a>(
+    out: &impl Print,
     block: &mut [u8; BLOCK],
     waiting: usize,
     r: Reading,
     line: Line,
     kinds: &'a [u32],
     texts: &'a [u32],
-) -> usize {
-    let named = bytes(block, waiting, b"refusal ");
-    let said = number(block, named, wide(r.number));
+) -> Result<usize> {
+    let named = bytes(out, block, waiting, b"refusal ")?;
+    let said = number(out, block, named, wide(r.number))?;
     let n = r.number;
     match n {
-        1 => lengths(block, said, line),
-        4 | 9 | 10 => missing(block, said, n, r.place),
-        _ => token(block, said, n, r.place, kinds, texts),
+        1 => lengths(out, block, said, line),
+        4 | 9 | 10 => missing(out, block, said, n, r.place),
+        _ => token(out, block, said, n, r.place, kinds, texts),
     }
 }
 
-fn lengths(block: &mut [u8; BLOCK], waiting: usize, line: Line) -> usize {
+fn lengths(out: &impl Print, block: &mut [u8; BLOCK], waiting: usize, line: Line) -> Result<usize> {
     if line.kinds == line.texts {
-        let said = bytes(block, waiting, b": input over 4,096, it has ");
-        return many(block, said, line.kinds, b"token");
+        let said = bytes(out, block, waiting, b": input over 4,096, it has ")?;
+        return many(out, block, said, line.kinds, b"token");
     }
-    let said = bytes(block, waiting, b": list lengths differ, ");
-    let k = many(block, said, line.kinds, b"kind");
-    let and = bytes(block, k, b" and ");
-    many(block, and, line.texts, b"text number")
+    let said = bytes(out, block, waiting, b": list lengths differ, ")?;
+    let k = many(out, block, said, line.kinds, b"kind")?;
+    let and = bytes(out, block, k, b" and ")?;
+    many(out, block, and, line.texts, b"text number")
 }
 
 // The place is how much there is, or would have to be.
-pub fn missing(block: &mut [u8; BLOCK], waiting: usize, n: u32, place: usize) -> usize {
+pub fn missing(
+    out: &impl Print,
+    block: &mut [u8; BLOCK],
+    waiting: usize,
+    n: u32,
+    place: usize,
+) -> Result<usize> {
     if n == 4 {
-        let said = bytes(block, waiting, b": the command ends too soon, after ");
-        return many(block, said, place, b"token");
+        let said = bytes(out, block, waiting, b": the command ends too soon, after ")?;
+        return many(out, block, said, place, b"token");
     }
     if n == 9 {
-        let said = bytes(block, waiting, b": the node table is too short for ");
-        return many(block, said, place, b"record");
+        let said = bytes(out, block, waiting, b": the node table is too short for ")?;
+        return many(out, block, said, place, b"record");
     }
-    let said = bytes(block, waiting, b": the writer's output is too short for ");
-    many(block, said, place, b"token")
+    let said = bytes(
+        out,
+        block,
+        waiting,
+        b": the writer's output is too short for ",
+    )?;
+    many(out, block, said, place, b"token")
 }
 
 // The place is that of a token.
 fn token<'a>(
+    out: &impl Print,
     block: &mut [u8; BLOCK],
     waiting: usize,
     n: u32,
     place: usize,
     kinds: &'a [u32],
     texts: &'a [u32],
-) -> usize {
-    let named = bytes(block, waiting, b", token ");
-    let said = number(block, named, place as u64);
-    let begun = bytes(block, said, b": ");
+) -> Result<usize> {
+    let named = bytes(out, block, waiting, b", token ")?;
+    let said = number(out, block, named, place as u64)?;
+    let begun = bytes(out, block, said, b": ")?;
     match n {
-        2 => unfit(block, begun, at(kinds, place), at(texts, place)),
-        3 => misplaced(block, begun, at(kinds, place), place),
+        2 => unfit(out, block, begun, at(kinds, place), at(texts, place)),
+        3 => misplaced(out, block, begun, at(kinds, place), place),
         5 => bytes(
+            out,
             block,
             begun,
             b"a level-65 expression starts, 64 are the most",
         ),
-        6 => bytes(block, begun, b"a 17th query opens, 16 are the most"),
-        7 => join(block, begun, place, kinds, texts),
-        8 => bytes(block, begun, b"row length differs from the first row's"),
-        _ => bytes(block, begun, b"refused"),
+        6 => bytes(out, block, begun, b"a 17th query opens, 16 are the most"),
+        7 => join(out, block, begun, place, kinds, texts),
+        8 => bytes(
+            out,
+            block,
+            begun,
+            b"row length differs from the first row's",
+        ),
+        _ => bytes(out, block, begun, b"refused"),
     }
 }
 
-fn misplaced(block: &mut [u8; BLOCK], waiting: usize, kind: u32, place: usize) -> usize {
-    let named = crate::names::kind(block, waiting, kind);
+fn misplaced(
+    out: &impl Print,
+    block: &mut [u8; BLOCK],
+    waiting: usize,
+    kind: u32,
+    place: usize,
+) -> Result<usize> {
+    let named = crate::names::kind(out, block, waiting, kind)?;
     if place == 0 {
-        return bytes(block, named, b" can't begin a command");
+        return bytes(out, block, named, b" can't begin a command");
     }
-    bytes(block, named, b" can't follow")
+    bytes(out, block, named, b" can't follow")
 }
 
-fn unfit(block: &mut [u8; BLOCK], waiting: usize, kind: u32, text: u32) -> usize {
+fn unfit(
+    out: &impl Print,
+    block: &mut [u8; BLOCK],
+    waiting: usize,
+    kind: u32,
+    text: u32,
+) -> Result<usize> {
     match kind {
         JOIN_KW | LIKE_KW => {
-            let named = crate::names::kind(block, waiting, kind);
-            let said = bytes(block, named, b" can't have text number ");
-            number(block, said, wide(text))
+            let named = crate::names::kind(out, block, waiting, kind)?;
+            let said = bytes(out, block, named, b" can't have text number ")?;
+            number(out, block, said, wide(text))
         }
         _ => {
-            let said = bytes(block, waiting, b"there is no kind ");
-            number(block, said, wide(kind))
+            let said = bytes(out, block, waiting, b"there is no kind ")?;
+            number(out, block, said, wide(kind))
         }
     }
 }
@@ -115,12 +153,13 @@ fn unfit(block: &mut [u8; BLOCK], waiting: usize, kind: u32, text: u32) -> usize
 // The words before JOIN. A join word may also be a name, but only the first of those in a row, and only where
 // what stands before it asks for one.
 fn join<'a>(
+    out: &impl Print,
     block: &mut [u8; BLOCK],
     waiting: usize,
     place: usize,
     kinds: &'a [u32],
     texts: &'a [u32],
-) -> usize {
+) -> Result<usize> {
     let last = word(place, 1, kinds, texts);
     let middle = if last == 0 {
         0
@@ -132,7 +171,7 @@ fn join<'a>(
     } else {
         word(place, 3, kinds, texts)
     };
-    clash(block, waiting, first, middle, last)
+    clash(out, block, waiting, first, middle, last)
 }
 
 // The join word so many places before JOIN, 0 where there is none.
@@ -176,14 +215,26 @@ fn outer(word: u32, otherwise: u32) -> u32 {
 }
 
 // Flags are refused for a word that means INNER beside one that means OUTER, or for an OUTER of no side.
-fn clash(block: &mut [u8; BLOCK], waiting: usize, first: u32, middle: u32, last: u32) -> usize {
+fn clash(
+    out: &impl Print,
+    block: &mut [u8; BLOCK],
+    waiting: usize,
+    first: u32,
+    middle: u32,
+    last: u32,
+) -> Result<usize> {
     let o = outer(first, outer(middle, outer(last, 0)));
     let i = inner(first, inner(middle, inner(last, 0)));
     if o == 0 || i == 0 {
-        return bytes(block, waiting, b"OUTER goes only with LEFT, RIGHT or FULL");
+        return bytes(
+            out,
+            block,
+            waiting,
+            b"OUTER goes only with LEFT, RIGHT or FULL",
+        );
     }
-    let one = crate::names::join_word(block, waiting, o);
-    let and = bytes(block, one, b" and ");
-    let two = crate::names::join_word(block, and, i);
-    bytes(block, two, b" don't go together")
+    let one = crate::names::join_word(out, block, waiting, o)?;
+    let and = bytes(out, block, one, b" and ")?;
+    let two = crate::names::join_word(out, block, and, i)?;
+    bytes(out, block, two, b" don't go together")
 }

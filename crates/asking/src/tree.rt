@@ -1,6 +1,7 @@
 // A reading drawn as a tree: a record a line, below the one whose child it is; absent ones are left out.
 use reading::WIDTH;
 use report::{BLOCK, byte, bytes};
+use std::io::Result;
 
 // As many records as the longest table holds.
 const RECORDS: usize = 16384;
@@ -59,16 +60,10 @@ fn seat_one(
     order: &mut [u32; RECORDS],
 ) {
     let depth = get(depths, record);
-    let below = std::num::wrapping_sub_u32(number(nodes, record, SIZE), 1);
-    let others = std::num::wrapping_sub_u32(record, below);
-    put(order, std::num::wrapping_add_u32(others, depth), record);
-    seat_children(
-        nodes,
-        record,
-        std::num::wrapping_add_u32(depth, 1),
-        depths,
-        parts,
-    );
+    let below = number(nodes, record, SIZE).wrapping_sub(1);
+    let others = record.wrapping_sub(below);
+    put(order, others.wrapping_add(depth), record);
+    seat_children(nodes, record, depth.wrapping_add(1), depths, parts);
 }
 
 // The last child stands just before its parent, each other one just before the next one's subtree.
@@ -85,57 +80,59 @@ fn seat_children(
     let mut left = count;
     while left > 0 {
         left -= 1;
-        let child = std::num::wrapping_sub_u32(end, 1);
+        let child = end.wrapping_sub(1);
         put(depths, child, depth);
         put(parts, child, crate::labels::part(code, left, count));
-        end = std::num::wrapping_sub_u32(end, number(nodes, child, SIZE));
+        end = end.wrapping_sub(number(nodes, child, SIZE));
     }
 }
 
-fn blanks(block: &mut [u8; BLOCK], waiting: usize, depth: u32) -> usize {
+fn blanks(out: &impl Print, block: &mut [u8; BLOCK], waiting: usize, depth: u32) -> Result<usize> {
     let mut at = waiting;
     let mut left = depth;
     while left > 0 {
-        let half = byte(block, at, b' ');
-        at = byte(block, half, b' ');
+        let half = byte(out, block, at, b' ')?;
+        at = byte(out, block, half, b' ')?;
         left -= 1;
     }
-    at
+    Ok(at)
 }
 
 // Left operands may stand in each other a thousand deep. From DEEP on the depth is told by its number, lest a
 // line grow with it.
-fn indent(block: &mut [u8; BLOCK], waiting: usize, depth: u32) -> usize {
+fn indent(out: &impl Print, block: &mut [u8; BLOCK], waiting: usize, depth: u32) -> Result<usize> {
     if depth < DEEP {
-        return blanks(block, waiting, depth);
+        return blanks(out, block, waiting, depth);
     }
-    let at = blanks(block, waiting, DEEP);
-    let opened = byte(block, at, b'(');
-    let told = report::number(block, opened, report::wide(depth));
-    bytes(block, told, b") ")
+    let at = blanks(out, block, waiting, DEEP)?;
+    let opened = byte(out, block, at, b'(')?;
+    let told = report::number(out, block, opened, report::wide(depth))?;
+    bytes(out, block, told, b") ")
 }
 
 // A line of the tree.
 fn draw_one<'a>(
+    out: &impl Print,
     block: &mut [u8; BLOCK],
     waiting: usize,
     nodes: &[u32],
     record: u32,
     depths: &'a [u32; RECORDS],
     parts: &'a [u32; RECORDS],
-) -> usize {
+) -> Result<usize> {
     let code = number(nodes, record, CODE);
     if code == crate::labels::ABSENT {
-        return waiting;
+        return Ok(waiting);
     }
     let depth = get(depths, record);
-    let begun = indent(block, waiting, std::num::wrapping_add_u32(depth, 1));
-    let said = crate::labels::part_name(block, begun, get(parts, record));
-    let end = crate::labels::record(block, said, code, number(nodes, record, DETAIL));
-    byte(block, end, b'\n')
+    let begun = indent(out, block, waiting, depth.wrapping_add(1))?;
+    let said = crate::labels::part_name(out, block, begun, get(parts, record))?;
+    let end = crate::labels::record(out, block, said, code, number(nodes, record, DETAIL))?;
+    byte(out, block, end, b'\n')
 }
 
 fn draw_all<'a>(
+    out: &impl Print,
     block: &mut [u8; BLOCK],
     waiting: usize,
     nodes: &[u32],
@@ -143,14 +140,14 @@ fn draw_all<'a>(
     depths: &'a [u32; RECORDS],
     parts: &'a [u32; RECORDS],
     order: &'a [u32; RECORDS],
-) -> usize {
+) -> Result<usize> {
     let mut at = waiting;
     let mut line = 0;
     while line < count {
-        at = draw_one(block, at, nodes, get(order, line), depths, parts);
+        at = draw_one(out, block, at, nodes, get(order, line), depths, parts)?;
         line += 1;
     }
-    at
+    Ok(at)
 }
 
 // So many records, of those that the table may hold.
@@ -162,11 +159,17 @@ fn within(count: usize) -> u32 {
     }
 }
 
-pub fn draw(block: &mut [u8; BLOCK], waiting: usize, nodes: &[u32], count: usize) -> usize {
+pub fn draw(
+    out: &impl Print,
+    block: &mut [u8; BLOCK],
+    waiting: usize,
+    nodes: &[u32],
+    count: usize,
+) -> Result<usize> {
     let n = within(count);
     let mut depths = [0u32; RECORDS];
     let mut parts = [0u32; RECORDS];
     let mut order = [0u32; RECORDS];
     seat(nodes, n, &mut depths, &mut parts, &mut order);
-    draw_all(block, waiting, nodes, n, &depths, &parts, &order)
+    draw_all(out, block, waiting, nodes, n, &depths, &parts, &order)
 }

@@ -14,6 +14,8 @@
 use lines::{Expected, Line};
 use reading::Reading;
 use report::{BLOCK, byte, bytes, mixed, number};
+use std::fs;
+use std::io::{Read, Result};
 
 const CLASSES: usize = 29;
 
@@ -87,7 +89,7 @@ fn class(b: u8) -> usize {
 
 fn one_more(counts: &mut [u64; CLASSES], i: usize) {
     if i < CLASSES {
-        counts[i] = std::num::wrapping_add_u64(counts[i], 1);
+        counts[i] = counts[i].wrapping_add(1);
     }
 }
 
@@ -156,7 +158,7 @@ fn is_at(n: u32, nodes: &[u32], i: usize, end: usize) -> bool {
 fn is_whole(case: Case) -> bool {
     let e = case.expected;
     let r = case.reading;
-    !e.wrong && std::num::wrapping_sub_usize(e.count, 2) == r.used
+    !e.wrong && e.count.wrapping_sub(2) == r.used
 }
 
 // A byte of an answer.
@@ -197,33 +199,45 @@ fn is_right(case: Case) -> bool {
     }
 }
 
-fn complain(r: Reading, line: u64, block: &mut [u8; BLOCK], waiting: usize) -> usize {
-    let named = bytes(block, waiting, b"wrong: line ");
-    let numbered = number(block, named, line);
-    let after = bytes(block, numbered, b": ");
-    let answered = number(block, after, r.number as u64);
-    let blank = byte(block, answered, b' ');
-    let placed = number(block, blank, r.place as u64);
-    byte(block, placed, b'\n')
+fn complain(
+    out: &impl Print,
+    r: Reading,
+    line: u64,
+    block: &mut [u8; BLOCK],
+    waiting: usize,
+) -> Result<usize> {
+    let named = bytes(out, block, waiting, b"wrong: line ")?;
+    let numbered = number(out, block, named, line)?;
+    let after = bytes(out, block, numbered, b": ")?;
+    let answered = number(out, block, after, r.number as u64)?;
+    let blank = byte(out, block, answered, b' ')?;
+    let placed = number(out, block, blank, r.place as u64)?;
+    byte(out, block, placed, b'\n')
 }
 
 // A line's end: what it adds to the tally. The table is clear again.
-fn ended(case: Case, before: Tally, nodes: &mut [u32], block: &mut [u8; BLOCK]) -> Tally {
+fn ended(
+    out: &impl Print,
+    case: Case,
+    before: Tally,
+    nodes: &mut [u32],
+    block: &mut [u8; BLOCK],
+) -> Result<Tally> {
     let mut t = before;
     let r = case.reading;
     let said = mixed(mixed(t.digest, r.number as u64), r.place as u64);
     t.digest = report::digest(said, nodes, r.used);
     reading::clear(r, nodes);
-    t.lines = std::num::wrapping_add_u64(t.lines, 1);
+    t.lines = t.lines.wrapping_add(1);
     if case.same {
-        t.same = std::num::wrapping_add_u64(t.same, 1);
+        t.same = t.same.wrapping_add(1);
     }
     if is_right(case) {
-        return t;
+        return Ok(t);
     }
-    t.wrong = std::num::wrapping_add_u64(t.wrong, 1);
-    t.waiting = complain(r, t.lines, block, t.waiting);
-    t
+    t.wrong = t.wrong.wrapping_add(1);
+    t.waiting = complain(out, r, t.lines, block, t.waiting)?;
+    Ok(t)
 }
 
 // A byte of the file, that is no line end.
@@ -250,6 +264,7 @@ fn within_line(
 
 // A byte of the file.
 fn one(
+    out: &impl Print,
     before: Now,
     b: u8,
     kinds: &mut [u32],
@@ -257,23 +272,24 @@ fn one(
     nodes: &mut [u32],
     counts: &mut [u64; CLASSES],
     block: &mut [u8; BLOCK],
-) -> Now {
+) -> Result<Now> {
     let case = before.case;
     let tally = before.tally;
     if b == b'\n' {
         let last = told(case, b, nodes);
-        return Now {
+        return Ok(Now {
             case: opened(),
-            tally: ended(last, tally, nodes, block),
-        };
+            tally: ended(out, last, tally, nodes, block)?,
+        });
     }
-    Now {
+    Ok(Now {
         case: within_line(case, b, kinds, texts, nodes, counts),
         tally,
-    }
+    })
 }
 
 fn fed(
+    out: &impl Print,
     input: &[u8],
     before: Now,
     kinds: &mut [u32],
@@ -281,15 +297,15 @@ fn fed(
     nodes: &mut [u32],
     counts: &mut [u64; CLASSES],
     block: &mut [u8; BLOCK],
-) -> Now {
+) -> Result<Now> {
     let mut now = before;
     let mut i = 0;
     while i < input.len() {
         let b = input[i];
         i += 1;
-        now = one(now, b, kinds, texts, nodes, counts, block);
+        now = one(out, now, b, kinds, texts, nodes, counts, block)?;
     }
-    now
+    Ok(now)
 }
 
 fn closed(before: Now) -> Now {
@@ -301,24 +317,30 @@ fn closed(before: Now) -> Now {
 
 // Reads once, and takes what came.
 fn some(
-    fd: i32,
+    out: &impl Print,
+    input: &mut impl Read,
     before: Now,
     kinds: &mut [u32],
     texts: &mut [u32],
     nodes: &mut [u32],
     counts: &mut [u64; CLASSES],
     block: &mut [u8; BLOCK],
-) -> Now {
-    let mut buffer = io::large_buffer();
-    let got = libc::read(fd, &mut buffer);
-    if got < 0 {
-        os::fail(b"read");
-    }
-    let n = io::count(got, &buffer);
+) -> Result<Now> {
+    let mut buffer = [0u8; 65536];
+    let n = input.read(&mut buffer)?;
     if n == 0 {
-        return closed(before);
+        return Ok(closed(before));
     }
-    fed(&buffer[..n], before, kinds, texts, nodes, counts, block)
+    fed(
+        out,
+        &buffer[..n],
+        before,
+        kinds,
+        texts,
+        nodes,
+        counts,
+        block,
+    )
 }
 
 fn begun() -> Now {
@@ -338,90 +360,110 @@ fn begun() -> Now {
 
 // The last line may lack its end.
 fn last(
+    out: &impl Print,
     now: Now,
     kinds: &mut [u32],
     texts: &mut [u32],
     nodes: &mut [u32],
     counts: &mut [u64; CLASSES],
     block: &mut [u8; BLOCK],
-) -> Tally {
+) -> Result<Tally> {
     let case = now.case;
     if case.part == MARK {
-        return now.tally;
+        return Ok(now.tally);
     }
-    let end = one(now, b'\n', kinds, texts, nodes, counts, block);
-    end.tally
+    let end = one(out, now, b'\n', kinds, texts, nodes, counts, block)?;
+    Ok(end.tally)
 }
 
 // All lines of a file. A proved loop has to end, so it counts its turns, from a number that no run uses up.
 fn all(
-    fd: i32,
+    out: &impl Print,
+    input: &mut impl Read,
     kinds: &mut [u32],
     texts: &mut [u32],
     nodes: &mut [u32],
     counts: &mut [u64; CLASSES],
     block: &mut [u8; BLOCK],
-) -> Tally {
+) -> Result<Tally> {
     let mut now = begun();
     let mut turns = u64::MAX;
     while turns > 0 && now.tally.more {
-        now = some(fd, now, kinds, texts, nodes, counts, block);
+        now = some(out, input, now, kinds, texts, nodes, counts, block)?;
         turns -= 1;
     }
-    last(now, kinds, texts, nodes, counts, block)
+    last(out, now, kinds, texts, nodes, counts, block)
 }
 
-fn labelled(block: &mut [u8; BLOCK], waiting: usize, name: &[u8], n: u64) -> usize {
-    let named = bytes(block, waiting, name);
-    number(block, named, n)
+fn labelled(
+    out: &impl Print,
+    block: &mut [u8; BLOCK],
+    waiting: usize,
+    name: &[u8],
+    n: u64,
+) -> Result<usize> {
+    let named = bytes(out, block, waiting, name)?;
+    number(out, block, named, n)
 }
 
-fn classed(block: &mut [u8; BLOCK], waiting: usize, letter: u8, n: u64) -> usize {
-    let named = byte(block, waiting, letter);
-    let counted = labelled(block, named, b" ", n);
-    byte(block, counted, b'\n')
+fn classed(
+    out: &impl Print,
+    block: &mut [u8; BLOCK],
+    waiting: usize,
+    letter: u8,
+    n: u64,
+) -> Result<usize> {
+    let named = byte(out, block, waiting, letter)?;
+    let counted = labelled(out, block, named, b" ", n)?;
+    byte(out, block, counted, b'\n')
 }
 
 // Of each class how many lines are of it.
-fn classes(counts: &[u64; CLASSES], block: &mut [u8; BLOCK], waiting: usize) -> usize {
+fn classes(
+    out: &impl Print,
+    counts: &[u64; CLASSES],
+    block: &mut [u8; BLOCK],
+    waiting: usize,
+) -> Result<usize> {
     let mut at = waiting;
     let mut i = 0;
     while i < CLASSES {
-        at = classed(block, at, LETTERS[i], counts[i]);
+        at = classed(out, block, at, LETTERS[i], counts[i])?;
         i += 1;
     }
-    at
+    Ok(at)
 }
 
-fn summed(t: Tally, counts: &[u64; CLASSES], block: &mut [u8; BLOCK]) -> usize {
-    let counted = labelled(block, t.waiting, b"lines ", t.lines);
-    let judged = labelled(block, counted, b", wrong ", t.wrong);
-    let alike = labelled(block, judged, b", same ", t.same);
-    let digested = labelled(block, alike, b", digest ", t.digest);
-    let at = byte(block, digested, b'\n');
-    classes(counts, block, at)
+fn summed(
+    out: &impl Print,
+    t: Tally,
+    counts: &[u64; CLASSES],
+    block: &mut [u8; BLOCK],
+) -> Result<usize> {
+    let counted = labelled(out, block, t.waiting, b"lines ", t.lines)?;
+    let judged = labelled(out, block, counted, b", wrong ", t.wrong)?;
+    let alike = labelled(out, block, judged, b", same ", t.same)?;
+    let digested = labelled(out, block, alike, b", digest ", t.digest)?;
+    let at = byte(out, block, digested, b'\n')?;
+    classes(out, counts, block, at)
 }
 
-fn main() {
+fn main(rt: HostRuntime) -> Result<()> {
     let mut kinds = [0u32; lines::TOKENS];
     let mut texts = [0u32; lines::TOKENS];
     let mut nodes = [0u32; lines::TABLE as usize];
     let mut counts = [0u64; CLASSES];
-    let mut block = io::large_buffer();
-    let fd = os::open_read(b"sample.txt");
-    if fd < 0 {
-        os::fail(b"sample.txt");
-        return;
-    }
+    let mut block = [0u8; BLOCK];
+    let mut input = fs::open(&rt, "sample.txt")?;
     let t = all(
-        fd,
+        &rt,
+        &mut input,
         &mut kinds,
         &mut texts,
         &mut nodes,
         &mut counts,
         &mut block,
-    );
-    libc::close(fd);
-    let end = summed(t, &counts, &mut block);
-    report::flush(&block, end);
+    )?;
+    let end = summed(&rt, t, &counts, &mut block)?;
+    report::flush(&rt, &block, end)
 }

@@ -3,10 +3,10 @@
 #![tactic(auto)]
 
 use kinds::{FROM, ID, JOIN, JOIN_KW, SELECT};
-use libc::STDOUT_FILENO;
 use reader::Answer;
 use reading::{PLACES, put};
 use report::mixed;
+use std::io::Result;
 
 // Text numbers of the three names.
 const A: u32 = 8;
@@ -47,9 +47,9 @@ fn one_if(yes: bool) -> u32 {
 
 fn counted(t: Tally, accepted: bool, refused: bool, digest: u64) -> Tally {
     Tally {
-        sequences: std::num::wrapping_add_u32(t.sequences, 1),
-        accepted: std::num::wrapping_add_u32(t.accepted, one_if(accepted)),
-        refused: std::num::wrapping_add_u32(t.refused, one_if(refused)),
+        sequences: t.sequences.wrapping_add(1),
+        accepted: t.accepted.wrapping_add(one_if(accepted)),
+        refused: t.refused.wrapping_add(one_if(refused)),
         digest,
     }
 }
@@ -132,17 +132,14 @@ fn all() -> Tally {
     now
 }
 
-fn number(name: &[u8], n: u64) {
-    io::write_all(STDOUT_FILENO, name);
-    io::write_all(STDOUT_FILENO, b" ");
-    io::print_decimal(STDOUT_FILENO, n);
-    io::write_all(STDOUT_FILENO, b"\n");
+fn number(out: &impl Print, name: &str, n: u64) -> Result<()> {
+    println!(out; "{name} {n}")
 }
 
-fn main() {
+fn main(rt: HostRuntime) -> Result<()> {
     let t = all();
-    number(b"sequences", t.sequences as u64);
-    number(b"accepted", t.accepted as u64);
-    number(b"refused by 7 at JOIN", t.refused as u64);
-    number(b"digest", t.digest);
+    number(&rt, "sequences", t.sequences as u64)?;
+    number(&rt, "accepted", t.accepted as u64)?;
+    number(&rt, "refused by 7 at JOIN", t.refused as u64)?;
+    number(&rt, "digest", t.digest)
 }

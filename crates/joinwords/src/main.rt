@@ -2,7 +2,7 @@
 // no word, and prints the answers: counts and a digest of the first, each number of the others.
 #![tactic(auto)]
 
-use libc::STDOUT_FILENO;
+use std::io::Result;
 
 const MODULUS: u64 = 4294967296;
 
@@ -35,8 +35,8 @@ fn judged(t: Tally, first: u32, second: u32, third: u32) -> Tally {
     let written = words::fewest(flags);
     let flagged = mixed(mixed(t.digest, flags), legal);
     Tally {
-        sequences: std::num::wrapping_add_u32(t.sequences, 1),
-        legal: std::num::wrapping_add_u32(t.legal, legal),
+        sequences: t.sequences.wrapping_add(1),
+        legal: t.legal.wrapping_add(legal),
         digest: mixed(mixed(flagged, written.first), written.second),
     }
 }
@@ -63,45 +63,42 @@ fn all() -> Tally {
     now
 }
 
-fn number(name: &[u8], n: u64) {
-    io::write_all(STDOUT_FILENO, name);
-    io::write_all(STDOUT_FILENO, b" ");
-    io::print_decimal(STDOUT_FILENO, n);
-    io::write_all(STDOUT_FILENO, b"\n");
+fn number(out: &impl Print, name: &str, n: u64) -> Result<()> {
+    println!(out; "{name} {n}")
 }
 
 // Some bytes, and their number as a word.
-fn spelled(s: &[u8]) {
-    number(s, words::word(s) as u64);
+fn spelled(out: &impl Print, s: &str) -> Result<()> {
+    number(out, s, words::word(s.as_bytes()) as u64)
 }
 
-fn three_cases(large: &[u8], small: &[u8], both: &[u8]) {
-    spelled(large);
-    spelled(small);
-    spelled(both);
+fn three_cases(out: &impl Print, large: &str, small: &str, both: &str) -> Result<()> {
+    spelled(out, large)?;
+    spelled(out, small)?;
+    spelled(out, both)
 }
 
-fn all_words() {
-    three_cases(b"CROSS", b"cross", b"cRosS");
-    three_cases(b"FULL", b"full", b"fUlL");
-    three_cases(b"INNER", b"inner", b"InnEr");
-    three_cases(b"LEFT", b"left", b"leFT");
-    three_cases(b"NATURAL", b"natural", b"NatUral");
-    three_cases(b"RIGHT", b"right", b"rIGHt");
-    three_cases(b"OUTER", b"outer", b"OuTeR");
+fn all_words(out: &impl Print) -> Result<()> {
+    three_cases(out, "CROSS", "cross", "cRosS")?;
+    three_cases(out, "FULL", "full", "fUlL")?;
+    three_cases(out, "INNER", "inner", "InnEr")?;
+    three_cases(out, "LEFT", "left", "leFT")?;
+    three_cases(out, "NATURAL", "natural", "NatUral")?;
+    three_cases(out, "RIGHT", "right", "rIGHt")?;
+    three_cases(out, "OUTER", "outer", "OuTeR")
 }
 
 // No word: nothing, too short, too long, another word, and bytes that are 32 away from a letter and no letter.
-fn no_words() {
-    three_cases(b"", b"CROS", b"LEFTS");
-    three_cases(b"JOIN", b"&ULL", b"lef4");
+fn no_words(out: &impl Print) -> Result<()> {
+    three_cases(out, "", "CROS", "LEFTS")?;
+    three_cases(out, "JOIN", "&ULL", "lef4")
 }
 
-fn main() {
+fn main(rt: HostRuntime) -> Result<()> {
     let t = all();
-    number(b"sequences", t.sequences as u64);
-    number(b"legal", t.legal as u64);
-    number(b"digest", t.digest);
-    all_words();
-    no_words();
+    number(&rt, "sequences", t.sequences as u64)?;
+    number(&rt, "legal", t.legal as u64)?;
+    number(&rt, "digest", t.digest)?;
+    all_words(&rt)?;
+    no_words(&rt)
 }

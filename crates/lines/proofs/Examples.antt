@@ -1,5 +1,5 @@
 -- Lines of both forms, and lines of none, worked out by the definitions.
-use Rattle.std.proofs.Common.{◌≡◌, ℕ, Bool, true, false, List, [], ◌∷◌, refl}
+use Rattle.std.proofs.Common.{◌≡◌, ℕ, true, false, List, [], ◌∷◌, refl}
 use Prim.Native.String.{String}
 use Rattle.lines.specs.declared.Line.{Line}
 use Rattle.lines.specs.Bytes.{bytes_of}

@@ -9,7 +9,7 @@ use Rattle.lines.specs.declared.number.Longer.{Longer}
 use Rattle.lines.specs.declared.number.Longer.TheVariants.{Number, Over}
 use Rattle.lines.specs.Numbers.{digit_of, with_digit, last_set, U32_MAX}
 use Rattle.lines.specs.Bytes.{bytes_of, BLANK_BYTE, DOT_BYTE, EQUALS_BYTE, COLON_BYTE}
-use Rattle.lines.specs.States.{WRONG, START, GAP, KIND, DOT, TEXT, WORD, EQUALS, SIZE, SPACE, COLON, BETWEEN, ITEM, along, blank_ways, dot_ways, digit_ways, before_letter}
+use Rattle.lines.specs.States.{WRONG, START, GAP, KIND, TEXT, WORD, EQUALS, SIZE, COLON, BETWEEN, ITEM, along, blank_ways, dot_ways, digit_ways, before_letter}
 
 -- the most tokens of a line, and the longest output and node table that it may ask for
 abbrev pub TOKENS : ℕ

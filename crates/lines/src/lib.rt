@@ -210,7 +210,7 @@ fn on_byte(line: Line, byte: u8) -> Line
 fn counted(mut line: Line) -> Line
     ensures { result ≡ forms.counted line }
 {
-    line.column = std::num::wrapping_add_u64(line.column, 1);
+    line.column = line.column.wrapping_add(1);
     line
 }
 

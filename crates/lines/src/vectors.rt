@@ -101,7 +101,7 @@ fn ended(mut e: Expected) -> Expected
     e.fresh = e.inside;
     e.inside = false;
     if e.fresh {
-        e.count = std::num::wrapping_add_usize(e.count, 1);
+        e.count = e.count.wrapping_add(1);
     }
     e
 }

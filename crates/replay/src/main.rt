@@ -8,6 +8,9 @@
 use lines::{Expected, Line};
 use reading::{Reading, Writing};
 use report::{BLOCK, byte, bytes, mixed, number};
+use std::fs;
+use std::io::{Read, Result};
+use std::rt::Files;
 
 // A line of vectors: its command, and, once that is read, its answer.
 #[derive(Clone, Copy)]
@@ -157,7 +160,7 @@ fn is_right(case: Case) -> bool {
     let e = case.expected;
     let line = case.line;
     let most = if lines::is_room(line) { 2 } else { told(case) };
-    let rest = std::num::wrapping_sub_usize(e.count, 2);
+    let rest = e.count.wrapping_sub(2);
     case.is_read && case.right && !e.wrong && rest == most
 }
 
@@ -208,71 +211,81 @@ fn is_left(w: Writing, r: Reading, records: u64, nodes: &[u32]) -> bool {
 }
 
 fn complain(
+    out: &impl Print,
     block: &mut [u8; BLOCK],
     waiting: usize,
     what: &[u8],
     line: u64,
     n: u32,
     place: usize,
-) -> usize {
-    let named = bytes(block, waiting, what);
-    let numbered = number(block, named, line);
-    let parted = bytes(block, numbered, b": ");
-    let answered = number(block, parted, n as u64);
-    let blank = byte(block, answered, b' ');
-    let placed = number(block, blank, place as u64);
-    byte(block, placed, b'\n')
+) -> Result<usize> {
+    let named = bytes(out, block, waiting, what)?;
+    let numbered = number(out, block, named, line)?;
+    let parted = bytes(out, block, numbered, b": ")?;
+    let answered = number(out, block, parted, n as u64)?;
+    let blank = byte(out, block, answered, b' ')?;
+    let placed = number(out, block, blank, place as u64)?;
+    byte(out, block, placed, b'\n')
 }
 
 // What the reader's answer adds to the tally, at a line's end.
-fn judged(case: Case, t: Tally, nodes: &[u32], block: &mut [u8; BLOCK]) -> Tally {
+fn judged(
+    out: &impl Print,
+    case: Case,
+    t: Tally,
+    nodes: &[u32],
+    block: &mut [u8; BLOCK],
+) -> Result<Tally> {
     let r = case.reading;
     let mut now = t;
-    now.lines = std::num::wrapping_add_u64(t.lines, 1);
+    now.lines = t.lines.wrapping_add(1);
     let said = mixed(mixed(t.digest, r.number as u64), r.place as u64);
     now.digest = report::digest(said, nodes, told(case));
     if !is_right(case) {
-        now.wrong = std::num::wrapping_add_u64(t.wrong, 1);
+        now.wrong = t.wrong.wrapping_add(1);
         now.waiting = complain(
+            out,
             block,
             t.waiting,
             b"wrong: line ",
             now.lines,
             r.number,
             r.place,
-        );
+        )?;
     }
-    now
+    Ok(now)
 }
 
 // What the writer's adds.
 fn inked<'a>(
+    out: &impl Print,
     t: Tally,
     w: Writing,
     right: bool,
     out_kinds: &'a [u32],
     out_texts: &'a [u32],
     block: &mut [u8; BLOCK],
-) -> Tally {
+) -> Result<Tally> {
     let mut now = t;
     let said = mixed(mixed(t.ink, w.number as u64), w.place as u64);
     let halfway = report::digest(said, out_kinds, w.used);
     now.ink = report::digest(halfway, out_texts, w.used);
     if w.number == 0 {
-        now.written = std::num::wrapping_add_u64(t.written, 1);
+        now.written = t.written.wrapping_add(1);
     }
     if !right {
-        now.unlike = std::num::wrapping_add_u64(t.unlike, 1);
+        now.unlike = t.unlike.wrapping_add(1);
         now.waiting = complain(
+            out,
             block,
             t.waiting,
             b"wrong writing: line ",
             t.lines,
             w.number,
             w.place,
-        );
+        )?;
     }
-    now
+    Ok(now)
 }
 
 // Writes the command, over a table that is cleared first.
@@ -329,6 +342,7 @@ fn is_same<'a>(
 
 // Writes the command, in lists of its own.
 fn written<'a>(
+    out: &impl Print,
     case: Case,
     t: Tally,
     kinds: &'a [u32],
@@ -337,7 +351,7 @@ fn written<'a>(
     wanted_kinds: &'a [u32],
     wanted_texts: &'a [u32],
     block: &mut [u8; BLOCK],
-) -> Tally {
+) -> Result<Tally> {
     let r = case.reading;
     let line = case.line;
     let mut out_kinds = [0u32; lines::TOKENS];
@@ -345,7 +359,7 @@ fn written<'a>(
     let w = tried(line, r, kinds, texts, nodes, &mut out_kinds, &mut out_texts);
     let equal = is_same(line, w, &out_kinds, &out_texts, wanted_kinds, wanted_texts);
     let right = equal && w.kept && is_said(case, w);
-    inked(t, w, right, &out_kinds, &out_texts, block)
+    inked(out, t, w, right, &out_kinds, &out_texts, block)
 }
 
 // A byte of the file, that is no line end.
@@ -370,6 +384,7 @@ fn within_line(
 
 // A byte of the file.
 fn one(
+    out: &impl Print,
     before: Now,
     b: u8,
     kinds: &mut [u32],
@@ -378,15 +393,16 @@ fn one(
     wanted_kinds: &mut [u32],
     wanted_texts: &mut [u32],
     block: &mut [u8; BLOCK],
-) -> Now {
+) -> Result<Now> {
     let case = before.case;
     let tally = before.tally;
     if b == b'\n' {
         let last = checked(case, b, nodes);
-        let read = judged(last, tally, nodes, block);
-        return Now {
+        let read = judged(out, last, tally, nodes, block)?;
+        return Ok(Now {
             case: taking(lines::begun()),
             tally: written(
+                out,
                 last,
                 read,
                 kinds,
@@ -395,16 +411,17 @@ fn one(
                 wanted_kinds,
                 wanted_texts,
                 block,
-            ),
-        };
+            )?,
+        });
     }
-    Now {
+    Ok(Now {
         case: within_line(case, b, kinds, texts, nodes, wanted_kinds, wanted_texts),
         tally,
-    }
+    })
 }
 
 fn fed(
+    out: &impl Print,
     input: &[u8],
     before: Now,
     kinds: &mut [u32],
@@ -413,13 +430,14 @@ fn fed(
     wanted_kinds: &mut [u32],
     wanted_texts: &mut [u32],
     block: &mut [u8; BLOCK],
-) -> Now {
+) -> Result<Now> {
     let mut now = before;
     let mut i = 0;
     while i < input.len() {
         let b = input[i];
         i += 1;
         now = one(
+            out,
             now,
             b,
             kinds,
@@ -428,9 +446,9 @@ fn fed(
             wanted_kinds,
             wanted_texts,
             block,
-        );
+        )?;
     }
-    now
+    Ok(now)
 }
 
 fn closed(before: Now) -> Now {
@@ -442,7 +460,8 @@ fn closed(before: Now) -> Now {
 
 // Reads once, and takes what came.
 fn some(
-    fd: i32,
+    out: &impl Print,
+    input: &mut impl Read,
     before: Now,
     kinds: &mut [u32],
     texts: &mut [u32],
@@ -450,17 +469,14 @@ fn some(
     wanted_kinds: &mut [u32],
     wanted_texts: &mut [u32],
     block: &mut [u8; BLOCK],
-) -> Now {
-    let mut buffer = io::large_buffer();
-    let got = libc::read(fd, &mut buffer);
-    if got < 0 {
-        os::fail(b"read");
-    }
-    let n = io::count(got, &buffer);
+) -> Result<Now> {
+    let mut buffer = [0u8; 65536];
+    let n = input.read(&mut buffer)?;
     if n == 0 {
-        return closed(before);
+        return Ok(closed(before));
     }
     fed(
+        out,
         &buffer[..n],
         before,
         kinds,
@@ -491,6 +507,7 @@ fn begun(waiting: usize) -> Now {
 
 // The last line may lack its end.
 fn last(
+    out: &impl Print,
     now: Now,
     kinds: &mut [u32],
     texts: &mut [u32],
@@ -498,13 +515,14 @@ fn last(
     wanted_kinds: &mut [u32],
     wanted_texts: &mut [u32],
     block: &mut [u8; BLOCK],
-) -> Tally {
+) -> Result<Tally> {
     let case = now.case;
     let line = case.line;
     if line.column == 0 {
-        return now.tally;
+        return Ok(now.tally);
     }
     let end = one(
+        out,
         now,
         b'\n',
         kinds,
@@ -513,13 +531,14 @@ fn last(
         wanted_kinds,
         wanted_texts,
         block,
-    );
-    end.tally
+    )?;
+    Ok(end.tally)
 }
 
 // All lines of a file. A proved loop has to end, so it counts its turns, from a number that no run uses up.
 fn all(
-    fd: i32,
+    out: &impl Print,
+    input: &mut impl Read,
     kinds: &mut [u32],
     texts: &mut [u32],
     nodes: &mut [u32],
@@ -527,12 +546,13 @@ fn all(
     wanted_texts: &mut [u32],
     block: &mut [u8; BLOCK],
     waiting: usize,
-) -> Tally {
+) -> Result<Tally> {
     let mut now = begun(waiting);
     let mut turns = u64::MAX;
     while turns > 0 && now.tally.more {
         now = some(
-            fd,
+            out,
+            input,
             now,
             kinds,
             texts,
@@ -540,30 +560,46 @@ fn all(
             wanted_kinds,
             wanted_texts,
             block,
-        );
+        )?;
         turns -= 1;
     }
-    last(now, kinds, texts, nodes, wanted_kinds, wanted_texts, block)
+    last(
+        out,
+        now,
+        kinds,
+        texts,
+        nodes,
+        wanted_kinds,
+        wanted_texts,
+        block,
+    )
 }
 
-fn labelled(block: &mut [u8; BLOCK], waiting: usize, name: &[u8], n: u64) -> usize {
-    let named = bytes(block, waiting, name);
-    number(block, named, n)
+fn labelled(
+    out: &impl Print,
+    block: &mut [u8; BLOCK],
+    waiting: usize,
+    name: &[u8],
+    n: u64,
+) -> Result<usize> {
+    let named = bytes(out, block, waiting, name)?;
+    number(out, block, named, n)
 }
 
-fn summed(t: Tally, path: &[u8], block: &mut [u8; BLOCK]) -> usize {
-    let named = bytes(block, t.waiting, path);
-    let counted = labelled(block, named, b": lines ", t.lines);
-    let judged = labelled(block, counted, b", wrong ", t.wrong);
-    let digested = labelled(block, judged, b", digest ", t.digest);
-    let written = labelled(block, digested, b"; written ", t.written);
-    let held = labelled(block, written, b", wrong ", t.unlike);
-    let inked = labelled(block, held, b", digest ", t.ink);
-    byte(block, inked, b'\n')
+fn summed(out: &impl Print, t: Tally, path: &[u8], block: &mut [u8; BLOCK]) -> Result<usize> {
+    let named = bytes(out, block, t.waiting, path)?;
+    let counted = labelled(out, block, named, b": lines ", t.lines)?;
+    let judged = labelled(out, block, counted, b", wrong ", t.wrong)?;
+    let digested = labelled(out, block, judged, b", digest ", t.digest)?;
+    let written = labelled(out, block, digested, b"; written ", t.written)?;
+    let held = labelled(out, block, written, b", wrong ", t.unlike)?;
+    let inked = labelled(out, block, held, b", digest ", t.ink)?;
+    byte(out, block, inked, b'\n')
 }
 
 fn file(
-    path: &[u8],
+    rt: &(impl Files + Print),
+    path: &str,
     kinds: &mut [u32],
     texts: &mut [u32],
     nodes: &mut [u32],
@@ -571,14 +607,11 @@ fn file(
     wanted_texts: &mut [u32],
     block: &mut [u8; BLOCK],
     waiting: usize,
-) -> usize {
-    let fd = os::open_read(path);
-    if fd < 0 {
-        os::fail(path);
-        return waiting;
-    }
+) -> Result<usize> {
+    let mut input = fs::open(rt, path)?;
     let t = all(
-        fd,
+        rt,
+        &mut input,
         kinds,
         texts,
         nodes,
@@ -586,20 +619,20 @@ fn file(
         wanted_texts,
         block,
         waiting,
-    );
-    libc::close(fd);
-    summed(t, path, block)
+    )?;
+    summed(rt, t, path.as_bytes(), block)
 }
 
-fn main() {
+fn main(rt: HostRuntime) -> Result<()> {
     let mut kinds = [0u32; lines::TOKENS];
     let mut texts = [0u32; lines::TOKENS];
     let mut nodes = [0u32; lines::TABLE as usize];
     let mut wanted_kinds = [0u32; lines::TOKENS];
     let mut wanted_texts = [0u32; lines::TOKENS];
-    let mut block = io::large_buffer();
+    let mut block = [0u8; BLOCK];
     let one = file(
-        b"commands.txt",
+        &rt,
+        "commands.txt",
         &mut kinds,
         &mut texts,
         &mut nodes,
@@ -607,9 +640,10 @@ fn main() {
         &mut wanted_texts,
         &mut block,
         0,
-    );
+    )?;
     let two = file(
-        b"room.txt",
+        &rt,
+        "room.txt",
         &mut kinds,
         &mut texts,
         &mut nodes,
@@ -617,6 +651,6 @@ fn main() {
         &mut wanted_texts,
         &mut block,
         one,
-    );
-    report::flush(&block, two);
+    )?;
+    report::flush(&rt, &block, two)
 }

@@ -1,10 +1,10 @@
 -- A number has its decimal digits in one way: what `Shows` allows is one count and one block.
 -- Assumes nothing.
-use Prim.Native.Nat.{ℕ, ◌+◌, ◌-◌, ◌^◌, ◌≤◌, ◌<◌}
+use Prim.Native.Nat.{ℕ, ◌-◌, ◌≤◌, ◌<◌}
 use mathlib.Core.Path.{◌≡◌, sym, ap, ◌∙◌}
 use mathlib.Core.List.{List}
 use mathlib.Core.Logic.{⊎_elim}
-use native.Mathlib.Nat.{pow-le-pow_right, eq-or-lt_of_le, eq-zero-or-pos}
+use native.Mathlib.Nat.{pow-le-pow_right, eq-zero-or-pos}
 use native.Mathlib.Omega.{arith}
 use Rattle.io.specs.Digits.{last_digits, IsDigitCount}
 use Rattle.report.specs.Blocks.{waiting_after, block_after, Shows}

@@ -1,13 +1,13 @@
 -- What a turn over a node table adds: to the numbers that were seen to be clear, and to those that were cleared.
 -- Assumes nothing.
-use Prim.Native.Nat.{ℕ, ◌+◌, ◌-◌, ◌≤◌, ◌<◌, min}
+use Prim.Native.Nat.{ℕ, ◌+◌, ◌-◌, ◌<◌, min}
 use mathlib.Core.Path.{◌≡◌, refl, sym, subst, ◌∙◌}
 use mathlib.Core.List.{List}
 use mathlib.Core.Logic.{⊎_elim}
 use native.Mathlib.Nat.{eq-or-lt_of_le, eq-zero-or-pos}
 use native.Mathlib.Omega.{arith}
 use borrow.Author.Count.{below_more}
-use lib.Bits.{bit_or, bit_and, or_add_and, and_le_l, and_le_r}
+use lib.Bits.{bit_or, or_add_and, and_le_l, and_le_r}
 use lib.ListN.{length, get_or, set, length-set, get_or-eq_default}
 use lib.Seq.{get_or-set_same, get_or-set_other}
 use Rattle.report.specs.Tables.{Cleared, ClearBelow}

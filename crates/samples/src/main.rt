@@ -6,9 +6,9 @@ use kinds::{
     ALL, COMMA, EQ, FROM, HAVING, ID, IN, INTEGER, JOIN, JOIN_KW, LIMIT, LP, NOT, PLUS, RP, SELECT,
     SEMI, STAR, VALUES,
 };
-use libc::STDOUT_FILENO;
 use reader::Answer;
 use reading::{PLACES, put};
+use std::io::Result;
 
 // Text numbers: of the names and the numbers of a command, in the order in which they come.
 const A: u32 = 8;
@@ -19,34 +19,30 @@ const C: u32 = 10;
 
 const D: u32 = 11;
 
-fn say(s: &[u8]) {
-    io::write_all(STDOUT_FILENO, s);
-}
-
-fn number(n: u64) {
-    say(b" ");
-    io::print_decimal(STDOUT_FILENO, n);
+fn number(out: &impl Print, n: u64) -> Result<()> {
+    print!(out; " {n}")
 }
 
 // What the answer says, and a digest of the records that it left, of which there are none after a refusal.
-fn show(name: &[u8], got: Answer, nodes: &[u32; PLACES]) {
+fn show(out: &impl Print, name: &str, got: Answer, nodes: &[u32; PLACES]) -> Result<()> {
     let r = reading::left(got, nodes);
-    say(name);
-    number(r.number as u64);
-    number(r.place as u64);
-    number(report::digest(0, nodes, r.used));
+    print!(out; "{name}")?;
+    number(out, r.number as u64)?;
+    number(out, r.place as u64)?;
+    number(out, report::digest(0, nodes, r.used))?;
     if !r.kept {
-        say(b" and the table is changed beyond");
+        print!(out; " and the table is changed beyond")?;
     }
+    Ok(())
 }
 
 // A token; a text number 0 is left out.
-fn token(kind: u32, text: u32) {
-    number(kind as u64);
+fn token(out: &impl Print, kind: u32, text: u32) -> Result<()> {
+    number(out, kind as u64)?;
     if text > 0 {
-        say(b".");
-        io::print_decimal(STDOUT_FILENO, text as u64);
+        print!(out; ".{text}")?;
     }
+    Ok(())
 }
 
 // The number at a place of a table, 0 beyond its end.
@@ -54,39 +50,61 @@ fn at(list: &[u32; PLACES], place: usize) -> u32 {
     if place < PLACES { list[place] } else { 0 }
 }
 
-fn tokens<'a>(kinds: &'a [u32; PLACES], texts: &'a [u32; PLACES], count: usize) {
+fn tokens<'a>(
+    out: &impl Print,
+    kinds: &'a [u32; PLACES],
+    texts: &'a [u32; PLACES],
+    count: usize,
+) -> Result<()> {
     let mut i = 0;
     while i < count {
-        token(at(kinds, i), at(texts, i));
+        token(out, at(kinds, i), at(texts, i))?;
         i += 1;
     }
+    Ok(())
 }
 
 // What the writer writes, or its refusal.
-fn show_writing<'a>(got: Answer, kinds: &'a [u32; PLACES], texts: &'a [u32; PLACES]) {
+fn show_writing<'a>(
+    out: &impl Print,
+    got: Answer,
+    kinds: &'a [u32; PLACES],
+    texts: &'a [u32; PLACES],
+) -> Result<()> {
     match got {
         Answer::Accepted(count) => {
-            say(b" :");
-            tokens(kinds, texts, count);
+            print!(out; " :")?;
+            tokens(out, kinds, texts, count)?;
         }
         Answer::Refused(n, place) => {
-            say(b", not written:");
-            number(n as u64);
-            number(place as u64);
+            print!(out; ", not written:")?;
+            number(out, n as u64)?;
+            number(out, place as u64)?;
         }
     }
-    say(b"\n");
+    println!(out; "")
 }
 
 // The first `count` tokens, with a node table of their own.
-fn ask<'a>(name: &[u8], kinds: &'a [u32; PLACES], texts: &'a [u32; PLACES], count: usize) {
+fn ask<'a>(
+    out: &impl Print,
+    name: &str,
+    kinds: &'a [u32; PLACES],
+    texts: &'a [u32; PLACES],
+    count: usize,
+) -> Result<()> {
     let mut nodes = [0; PLACES];
     let got = reading::read_places(kinds, texts, count, &mut nodes);
-    show(name, got, &nodes);
-    write(kinds, texts, count);
+    show(out, name, got, &nodes)?;
+    write(out, kinds, texts, count)
 }
 
-fn write<'a>(kinds: &'a [u32; PLACES], texts: &'a [u32; PLACES], count: usize) {
+fn write<'a>(
+    out: &impl Print,
+    kinds: &'a [u32; PLACES],
+    texts: &'a [u32; PLACES],
+    count: usize,
+) -> Result<()> {
     let mut nodes = [0; PLACES];
     let mut out_kinds = [0; PLACES];
     let mut out_texts = [0; PLACES];
@@ -98,7 +116,7 @@ fn write<'a>(kinds: &'a [u32; PLACES], texts: &'a [u32; PLACES], count: usize) {
         &mut out_kinds,
         &mut out_texts,
     );
-    show_writing(got, &out_kinds, &out_texts);
+    show_writing(out, got, &out_kinds, &out_texts)
 }
 
 fn copy(from: &[u32], to: &mut [u32; PLACES]) {
@@ -110,12 +128,12 @@ fn copy(from: &[u32], to: &mut [u32; PLACES]) {
 }
 
 // A command; a text number that is not given is 0.
-fn sample(name: &[u8], given_kinds: &[u32], given_texts: &[u32]) {
+fn sample(out: &impl Print, name: &str, given_kinds: &[u32], given_texts: &[u32]) -> Result<()> {
     let mut kinds = [0; PLACES];
     let mut texts = [0; PLACES];
     copy(given_kinds, &mut kinds);
     copy(given_texts, &mut texts);
-    ask(name, &kinds, &texts, given_kinds.len());
+    ask(out, name, &kinds, &texts, given_kinds.len())
 }
 
 // The same kind `count` times, from `first` on, each `step` places after the last.
@@ -124,13 +142,13 @@ fn fill(list: &mut [u32; PLACES], first: usize, step: usize, count: usize, kind:
     let mut left = count;
     while left > 0 {
         put(list, at, kind);
-        at = std::num::wrapping_add_usize(at, step);
+        at = at.wrapping_add(step);
         left -= 1;
     }
 }
 
 // SELECT, then 1 in so many pairs of parentheses.
-fn in_parentheses(name: &[u8], pairs: u8) {
+fn in_parentheses(out: &impl Print, name: &str, pairs: u8) -> Result<()> {
     let mut kinds = [0; PLACES];
     let mut texts = [0; PLACES];
     let n = pairs as usize;
@@ -139,11 +157,11 @@ fn in_parentheses(name: &[u8], pairs: u8) {
     put(&mut kinds, n + 1, INTEGER);
     put(&mut texts, n + 1, A);
     fill(&mut kinds, n + 2, 1, n, RP);
-    ask(name, &kinds, &texts, n + n + 2);
+    ask(out, name, &kinds, &texts, n + n + 2)
 }
 
 // So many SELECTs and one more, each in the last's column.
-fn in_columns(name: &[u8], outer: u8) {
+fn in_columns(out: &impl Print, name: &str, outer: u8) -> Result<()> {
     let mut kinds = [0; PLACES];
     let mut texts = [0; PLACES];
     let n = outer as usize;
@@ -152,74 +170,86 @@ fn in_columns(name: &[u8], outer: u8) {
     put(&mut kinds, n + n + 1, INTEGER);
     put(&mut texts, n + n + 1, A);
     fill(&mut kinds, n + n + 2, 1, n, RP);
-    ask(name, &kinds, &texts, n + n + n + 2);
+    ask(out, name, &kinds, &texts, n + n + n + 2)
 }
 
 // SELECT a FROM t, join words, JOIN u.
-fn joins() {
+fn joins(out: &impl Print) -> Result<()> {
     sample(
-        b"K3",
+        out,
+        "K3",
         &[SELECT, ID, FROM, ID, JOIN_KW, JOIN, ID],
         &[0, A, 0, B, words::OUTER, 0, C],
-    );
+    )?;
     sample(
-        b"K4",
+        out,
+        "K4",
         &[SELECT, ID, FROM, ID, JOIN_KW, JOIN, ID],
         &[0, A, 0, B, words::LEFT, 0, C],
-    );
+    )?;
     sample(
-        b"K5",
+        out,
+        "K5",
         &[SELECT, ID, FROM, ID, JOIN_KW, JOIN_KW, JOIN, ID],
         &[0, A, 0, B, words::LEFT, words::INNER, 0, C],
-    );
+    )
 }
 
 // LIMIT a , b; rows of unequal length; HAVING alone.
-fn clauses() {
+fn clauses(out: &impl Print) -> Result<()> {
     sample(
-        b"K6",
+        out,
+        "K6",
         &[SELECT, INTEGER, LIMIT, INTEGER, COMMA, INTEGER],
         &[0, A, 0, B, 0, C],
-    );
+    )?;
     sample(
-        b"K7",
+        out,
+        "K7",
         &[
             VALUES, LP, INTEGER, RP, COMMA, LP, INTEGER, COMMA, INTEGER, RP,
         ],
         &[0, 0, A, 0, 0, 0, B, 0, C],
-    );
-    sample(b"K8", &[SELECT, INTEGER, HAVING, INTEGER], &[0, A, 0, B]);
+    )?;
+    sample(
+        out,
+        "K8",
+        &[SELECT, INTEGER, HAVING, INTEGER],
+        &[0, A, 0, B],
+    )
 }
 
 // IN with an empty list, and with a comma too many.
-fn lists() {
-    sample(b"K9 empty", &[SELECT, ID, IN, LP, RP], &[0, A]);
+fn lists(out: &impl Print) -> Result<()> {
+    sample(out, "K9 empty", &[SELECT, ID, IN, LP, RP], &[0, A])?;
     sample(
-        b"K9 comma",
+        out,
+        "K9 comma",
         &[SELECT, ID, IN, LP, INTEGER, COMMA, RP],
         &[0, A, 0, 0, B],
-    );
+    )
 }
 
 // NOT right of a tighter operator; SELECT ALL (a)+(b*c) x.
-fn operators() {
-    sample(b"K12", &[SELECT, ID, EQ, NOT, ID], &[0, A, 0, 0, B]);
+fn operators(out: &impl Print) -> Result<()> {
+    sample(out, "K12", &[SELECT, ID, EQ, NOT, ID], &[0, A, 0, 0, B])?;
     sample(
-        b"K13",
+        out,
+        "K13",
         &[SELECT, ALL, LP, ID, RP, PLUS, LP, ID, STAR, ID, RP, ID],
         &[0, 0, 0, A, 0, 0, 0, B, 0, C, 0, D],
-    );
+    )
 }
 
-fn main() {
-    sample(b"K1", &[SELECT, STAR], &[]);
-    sample(b"K2 nothing", &[], &[]);
-    sample(b"K2 SEMI", &[SEMI], &[]);
-    joins();
-    clauses();
-    lists();
-    in_parentheses(b"K10 63", 63);
-    in_parentheses(b"K10 64", 64);
-    in_columns(b"K11", 16);
-    operators();
+fn main(rt: HostRuntime) -> Result<()> {
+    sample(&rt, "K1", &[SELECT, STAR], &[])?;
+    sample(&rt, "K2 nothing", &[], &[])?;
+    sample(&rt, "K2 SEMI", &[SEMI], &[])?;
+    joins(&rt)?;
+    clauses(&rt)?;
+    lists(&rt)?;
+    in_parentheses(&rt, "K10 63", 63)?;
+    in_parentheses(&rt, "K10 64", 64)?;
+    in_columns(&rt, "K11", 16)?;
+    operators(&rt)
 }
