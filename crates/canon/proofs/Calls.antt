@@ -31,13 +31,13 @@ pub one_meaning : {K T : List ℕ} {n m : Nodes} → Means K T n → Means K T m
 one_meaning a b = sym a.meant ∙ meant_by a.accepted b
 
 -- ── what was written ──
-take-front : (xs ys : List ℕ) → take (length xs) (xs ++ ys) ≡ xs
-take-front [] ys = refl
-take-front (x ∷ xs) ys = ap (λ z. x ∷ z) (take-front xs ys)
+take_front : (xs ys : List ℕ) → take (length xs) (xs ++ ys) ≡ xs
+take_front [] ys = refl
+take_front (x ∷ xs) ys = ap (λ z. x ∷ z) (take_front xs ys)
 
 put_front : {p : ℕ} {A' : List ℕ} (xs A : List ℕ) → p ≡ length xs → A' ≡ put xs A → take p A' ≡ xs
 unfolding put
-put_front {A' = A'} xs A e f = ap (λ z. take z A') e ∙ ap (take (length xs)) f ∙ take-front xs (drop (length xs) A)
+put_front {A' = A'} xs A e f = ap (λ z. take z A') e ∙ ap (take (length xs)) f ∙ take_front xs (drop (length xs) A)
 
 record Output (K T : List ℕ) (p : ℕ) (A B : List ℕ) : Type 0 where
   tree : Tree
@@ -60,8 +60,8 @@ output (refusal_2_to_9 e l r h i j) z = absurd (omega (arith, h, z))
 output (refusal_10 x e a r h i j k l o) z = absurd (omega (arith, i, z))
 
 -- tokens with these kinds and these texts are these tokens
-same-tokens : (ts us : List Tok) → kinds_of ts ≡ kinds_of us → texts_of ts ≡ texts_of us → ts ≡ us
-same-tokens ts us k t = sym (tokens_back ts) ∙ ap (λ z. tokens z (texts_of ts)) k ∙ ap (tokens (kinds_of us)) t ∙ tokens_back us
+same_tokens : (ts us : List Tok) → kinds_of ts ≡ kinds_of us → texts_of ts ≡ texts_of us → ts ≡ us
+same_tokens ts us k t = sym (tokens_back ts) ∙ ap (λ z. tokens z (texts_of ts)) k ∙ ap (tokens (kinds_of us)) t ∙ tokens_back us
 
 module _ {K T : List ℕ} {p : ℕ} {A B L U : List ℕ} {q : ℕ} {C D : List ℕ} (a : Output K T p A B) (b : Output L U q C D) where
   equal_tokens : SameWriting a.tree b.tree → EqualTokens p A B q C D
@@ -73,7 +73,7 @@ module _ {K T : List ℕ} {p : ℕ} {A B L U : List ℕ} {q : ℕ} {C D : List �
       }
 
   equal_written : EqualTokens p A B q C D → SameWriting a.tree b.tree
-  equal_written e = same-tokens (writing_of a.tree) (writing_of b.tree) (sym a.kinds ∙ e.kinds ∙ b.kinds) (sym a.texts ∙ e.texts ∙ b.texts)
+  equal_written e = same_tokens (writing_of a.tree) (writing_of b.tree) (sym a.kinds ∙ e.kinds ∙ b.kinds) (sym a.texts ∙ e.texts ∙ b.texts)
 
   outputs_equal : SameMeaningEqualOutputs K T p A B L U q C D
   outputs_equal =

@@ -141,9 +141,9 @@ node_left : (c : Around) (r : Row) (l : Tree) (t : Tok) (f : Tree) → Clean (no
 unfolding faults_in faults_kids
 node_left c r l t f z = all_left (faults_in Around under judge l c 0) _ z
 
-node-kids : (c : Around) (r : Row) (l : Tree) (t : Tok) (f : Tree) → Clean (node r l t f) c → AllZero (faults_kids Around under judge f c r l t)
+node_kids : (c : Around) (r : Row) (l : Tree) (t : Tok) (f : Tree) → Clean (node r l t f) c → AllZero (faults_kids Around under judge f c r l t)
 unfolding faults_in faults_kids
-node-kids c r l t f z = (all_right (faults_in Around under judge l c 0) (judge c r l t nil ∷ faults_kids Around under judge f c r l t) z).1
+node_kids c r l t f z = (all_right (faults_in Around under judge l c 0) (judge c r l t nil ∷ faults_kids Around under judge f c r l t) z).1
 
 kids_left : (c : Around) (r : Row) (l : Tree) (t : Tok) (f x : Tree) → AllZero (faults_kids Around under judge (add f x) c r l t) → AllZero (faults_kids Around under judge f c r l t)
 unfolding faults_kids
@@ -199,7 +199,7 @@ mutual
   opens_result {A} {t = t} {r = r} (head e) pa c z rl fl h = begins_here A c t r e h
   opens_result {A} {t = t} {r = r} (tail {l = l} {s = s} {q = q} {f = f} o p e) pa c z rl fl h =
       let fn = fit_node q l s f fl in
-      let ks = kids p c q l s (node-kids c q l s f z) A.least (λ i. (right_here A.least q l s f (rl i)).1) refl fn.1 (both_r (leb q.str 12) (proper_items q.items) (opens_sound o)) tt in
+      let ks = kids p c q l s (node_kids c q l s f z) A.least (λ i. (right_here A.least q l s f (rl i)).1) refl fn.1 (both_r (leb q.str 12) (proper_items q.items) (opens_sound o)) tt in
       let same : node q l s (grow (below q c) q.items ks.0 nil) ≡ node q l s f = ap (node q l s) ks.1 in
       let x : Result A.of q c (node q l s f) = subst (Result A.of q c) same
       (opens_result o pa c (node_left c q l s f z) (λ i. right_left A.least q l s f (rl i)) (fit_node_left q l s f fl) fn.0 ks.0 (subst (λ y. Clean y c) (sym same) z)) in
@@ -218,7 +218,7 @@ mutual
       let fn = fit_node q m s g fx in
       let asked : asked_at r.items (parts_so_far f) ≡ B.least = ap (λ is. asked_at is (parts_so_far f)) i ∙ asked_part p in
       let rx : Counts (below r c) (Rights x B.least) = λ n. subst (Rights x) asked (right_child a r l t f q m s g (rs (counts_back r c n))) in
-      let ys = kids pg (below r c) q m s (node-kids (below r c) q m s g zx) B.least (λ n. (right_here B.least q m s g (rx n)).1) refl fn.1 (both_r (leb q.str 12) (proper_items q.items) (opens_sound o)) tt in
+      let ys = kids pg (below r c) q m s (node_kids (below r c) q m s g zx) B.least (λ n. (right_here B.least q m s g (rx n)).1) refl fn.1 (both_r (leb q.str 12) (proper_items q.items) (opens_sound o)) tt in
       let same : node q m s (grow (below q (below r c)) q.items ys.0 nil) ≡ x = ap (node q m s) ys.1 in
       let y : Result B.of q (below r c) x = subst (Result B.of q (below r c)) same
       (opens_result o (suffix_proper (part_suffix G p) pr) (below r c) (node_left (below r c) q m s g zx) (λ n. right_left B.least q m s g (rx n)) (fit_node_left q m s g fx) fn.0 ys.0 (subst (λ y. Clean y (below r c)) (sym same) zx)) in
@@ -231,6 +231,6 @@ pub results : {A : Nt} {r : Row} {x : Tree} → Ok G A r x → proper A ≡ true
 unfolding grow sound
 results {A} {r} (whole {l = l} {t = t} {f = f} o p) pa c z rx fl =
     let fn = fit_node r l t f fl in
-    let ks = kids p c r l t (node-kids c r l t f z) A.least (λ n. (right_here A.least r l t f (rx n)).1) refl fn.1 (both_r (leb r.str 12) (proper_items r.items) (opens_sound o)) tt in
+    let ks = kids p c r l t (node_kids c r l t f z) A.least (λ n. (right_here A.least r l t f (rx n)).1) refl fn.1 (both_r (leb r.str 12) (proper_items r.items) (opens_sound o)) tt in
     let same : node r l t (grow (below r c) r.items ks.0 nil) ≡ node r l t f = ap (node r l t) ks.1 in
     subst (Result A.of r c) same (opens_result o pa c (node_left c r l t f z) (λ n. right_left A.least r l t f (rx n)) (fit_node_left r l t f fl) fn.0 ks.0 (subst (λ y. Clean y c) (sym same) z))

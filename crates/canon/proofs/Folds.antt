@@ -9,7 +9,7 @@ use Rattle.theory.proofs.Cases.{by_bool, 0≢1, both_r}
 use Rattle.grammar.specs.NodeNames.{node_parens}
 use Rattle.grammar.specs.Nodes.{Nodes, end, mk, beside}
 use Rattle.grammar.specs.Reading.{choose, is_end}
-use Rattle.grammar.specs.Meaning.{plain_detail, isOne, unwrapped, meaning}
+use Rattle.grammar.specs.Meaning.{plain_detail, is_one, unwrapped, meaning}
 use Rattle.grammar.specs.Writing.{Piece, piece, pieces}
 
 pub beside_end : (a : Nodes) → beside a end ≡ a
@@ -49,14 +49,14 @@ unfolding is_end beside
 is_end_beside end b e = 0≢1 (sym e)
 is_end_beside (mk c d ks ns) b e = refl
 
-one_some : (ns : Nodes) → isOne ns ≡ true → is_end ns ≡ false
-unfolding isOne is_end
+one_some : (ns : Nodes) → is_one ns ≡ true → is_end ns ≡ false
+unfolding is_one is_end
 one_some end e = 0≢1 e
 one_some (mk c d ks ns) e = refl
 
 unwrapped_some : (c d : ℕ) (ks : Nodes) → is_end (unwrapped c d ks) ≡ false
 unfolding unwrapped choose is_end
-unwrapped_some c d ks = by_bool (both (eqb c node_parens) (isOne ks)) (λ e. rw e (one_some ks (both_r (eqb c node_parens) (isOne ks) e))) (λ e. rw e)
+unwrapped_some c d ks = by_bool (both (eqb c node_parens) (is_one ks)) (λ e. rw e (one_some ks (both_r (eqb c node_parens) (is_one ks) e))) (λ e. rw e)
 
 end_kept : (n : Nodes) → is_end (meaning n) ≡ is_end n
 unfolding is_end meaning

@@ -31,15 +31,15 @@ finds_here : (e : Line) (es : List Line) → Finds e (e ∷ es)
 unfolding lookup pick
 finds_here e es C k m n = rw (both_i (mem C e.of) (mem k e.at) m n)
 
-none-some : (o : Option Row) (r : Row) → is_none o ≡ true → o ≡ some r → ⊥
+none_some : (o : Option Row) (r : Row) → is_none o ≡ true → o ≡ some r → ⊥
 unfolding is_none
-none-some none r e h = none≢some h
-none-some (some q) r e h = 0≢1 e
+none_some none r e h = none≢some h
+none_some (some q) r e h = 0≢1 e
 
 finds_later : (e f : Line) (es : List Line) → Kinds (λ C k r. is_none (lookup C k es)) f ≡ true → Finds e es → Finds e (f ∷ es)
 unfolding lookup pick
 finds_later e f es h g C k m n = by_bool (both (mem C f.of) (mem k f.at))
-    (λ b. absurd (none-some (lookup C k es) e.row
+    (λ b. absurd (none_some (lookup C k es) e.row
     (all_in (λ k. is_none (lookup C k es)) f.at k (all_in (λ C. allb (λ k. is_none (lookup C k es)) f.at) f.of C h (both_l (mem C f.of) (mem k f.at) b)) (both_r (mem C f.of) (mem k f.at) b)) (g C k m n)))
     (λ b. rw b (g C k m n))
 

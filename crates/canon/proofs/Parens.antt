@@ -20,7 +20,7 @@ use Rattle.grammar.specs.Grammar.{sql, G}
 use Rattle.grammar.specs.Sizes.{LEVELS}
 use Rattle.grammar.specs.Limits.{Around, is_query, begun}
 use Rattle.grammar.specs.Reading.{Val, empty, choose, is_end, rules, ruled, value_of, value, values}
-use Rattle.grammar.specs.Meaning.{isOne, meaning}
+use Rattle.grammar.specs.Meaning.{is_one, meaning}
 use Rattle.grammar.specs.Writing.{Piece, tok, at, forms, piece, pieces}
 use Rattle.canon.proofs.Counted.{below, deeper, deeper_more, five}
 use Rattle.canon.proofs.Folds.{beside_end, P, mean, flat}
@@ -62,13 +62,13 @@ one_core C q c x t u z k =
     }
 
 -- ── a query in parentheses, or more expressions ──
-many_one : (n : Nodes) (p q : Piece) (ps : List Piece) → pieces n ≡ p ∷ q ∷ ps → isOne n ≡ false
-unfolding pieces isOne is_end
+many_one : (n : Nodes) (p q : Piece) (ps : List Piece) → pieces n ≡ p ∷ q ∷ ps → is_one n ≡ false
+unfolding pieces is_one is_end
 many_one end p q ps e = refl
 many_one (mk c d ks end) p q ps e = absurd (let z : ◌≡◌ {A = List Piece} [] (q ∷ ps) = cc in let z : ◌≡◌ {A = ℕ} 0 1 = cc in omega arith)
 many_one (mk c d ks (mk c' d' ks' ns)) p q ps e = refl
 
-wide_value : (w : Val) (n : Nodes) (t : Tok) → n ≡ meaning w.nodes → is_query w.row ≡ false → isOne n ≡ false
+wide_value : (w : Val) (n : Nodes) (t : Tok) → n ≡ meaning w.nodes → is_query w.row ≡ false → is_one n ≡ false
     → mk node_parens 0 n end ≡ meaning (value_of row_parens empty t (w ∷ empty ∷ [])).nodes
 unfolding open_all
 wide_value w n t e m s = simp (m, beside_end, sym e, s)

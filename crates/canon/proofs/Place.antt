@@ -25,7 +25,7 @@ use Rattle.grammar.specs.Grammar.{bare, sql, G}
 use Rattle.grammar.specs.Sizes.{LEVELS}
 use Rattle.grammar.specs.Limits.{Around, is_query, is_expression, further_flags, begun, judge}
 use Rattle.grammar.specs.Reading.{Val, empty, says, choose, is_end, rules, ruled, value_of, value, values}
-use Rattle.grammar.specs.Meaning.{isOne, meaning}
+use Rattle.grammar.specs.Meaning.{is_one, meaning}
 use Rattle.grammar.specs.Writing.{Piece, at, pieces}
 use Rattle.grammar.specs.Promise.{AllFit}
 use Rattle.canon.proofs.Counted.{below, under, deeper, all_app, mono}
@@ -62,16 +62,16 @@ parens_ok : (D s : ℕ) (q : Row) (y : Tree) → mem D exprs ≡ true → leb s 
 unfolding enter_of
 parens_ok D s q y m h (whole o p) = whole (head (asked_some s (lookup D LP sql.heads) parens_row (parens_found D m) h)) (token (child begin o p) refl)
 
-pub single-one : (n : Nodes) (p : Piece) → pieces n ≡ p ∷ [] → isOne n ≡ true
-unfolding pieces isOne is_end
-single-one end p e = absurd (let z : ◌≡◌ {A = ℕ} 0 1 = cc in omega arith)
-single-one (mk c d ks end) p e = refl
-single-one (mk c d ks (mk c' d' ks' ns)) p e = absurd (let z : ◌≡◌ {A = List Piece} (pieces (mk c' d' ks' ns)) [] = cc in let z : ◌≡◌ {A = ℕ} 0 1 = cc in omega arith)
+pub single_one : (n : Nodes) (p : Piece) → pieces n ≡ p ∷ [] → is_one n ≡ true
+unfolding pieces is_one is_end
+single_one end p e = absurd (let z : ◌≡◌ {A = ℕ} 0 1 = cc in omega arith)
+single_one (mk c d ks end) p e = refl
+single_one (mk c d ks (mk c' d' ks' ns)) p e = absurd (let z : ◌≡◌ {A = List Piece} (pieces (mk c' d' ks' ns)) [] = cc in let z : ◌≡◌ {A = ℕ} 0 1 = cc in omega arith)
 
 pub parens_value : (w : Val) (n : Nodes) (t u : Tok) (p : Piece) → n ≡ meaning w.nodes → pieces n ≡ p ∷ [] → mem w.row told ≡ false
     → n ≡ meaning (value_of row_parens empty t (w ∷ empty ∷ [])).nodes
 unfolding open_all
-parens_value w n t u p e s m = simp (no_query w.row m, beside_end, sym e, single-one n p s)
+parens_value w n t u p e s m = simp (no_query w.row m, beside_end, sym e, single_one n p s)
 
 parens_clean : (c : Around) (y : Tree) → leb c.level LEVELS ≡ true → Clean y (deeper c) → Clean (parens y) c
 unfolding faults_in faults_kids judge begun below is_query pick both

@@ -17,7 +17,7 @@ use Rattle.grammar.specs.Rows.{exprs, optional}
 use Rattle.grammar.specs.Grammar.{sql, G}
 use Rattle.grammar.specs.Limits.{is_query}
 use Rattle.grammar.specs.Reading.{Val, empty, side, one, choose, is_end, none_there, opt, ◌#◌, column, limit_and_offset, group, inside, rules, ruled, value_of}
-use Rattle.grammar.specs.Meaning.{plain_detail, isOne, unwrapped, meaning}
+use Rattle.grammar.specs.Meaning.{plain_detail, is_one, unwrapped, meaning}
 use Rattle.grammar.specs.Writing.{Piece, tok, nothing, ◌!◌, but_first, at, after, joined, each, parted, rows, grouped, whens, binary_toks, binary_str, node_str, forms, formed, piece, pieces}
 use Rattle.canon.proofs.Folds.{meaning_beside, P, P_beside, is_nil, end_P}
 use Rattle.canon.proofs.Says.{Full, Operand, written, Run, Maybe, no_word, no_way, no_nulls, only_is, no_alias, no_index, Columned, Inner, plain_args, Rests, more_names, no_dot, pairs, no_pair, all_words, SaysOf, Says}
@@ -47,7 +47,7 @@ not_first c a l e = by_bool (eqb c a) (λ h. 0≢1 (sym (rw h at e))) (λ h. (h,
 
 -- all that a reading or a writing computes by, and the same but for what may be absent
 unfoldable pub open_rules : Unit {0}
-unfolding pick both mem is_query side choose is_end ◌#◌ rules ruled value_of plain_detail isOne unwrapped meaning beside ◌!◌ but_first at after joined each parted rows grouped whens binary_toks binary_str node_str forms formed piece pieces is_nil pairs all_words
+unfolding pick both mem is_query side choose is_end ◌#◌ rules ruled value_of plain_detail is_one unwrapped meaning beside ◌!◌ but_first at after joined each parted rows grouped whens binary_toks binary_str node_str forms formed piece pieces is_nil pairs all_words
 open_rules = tt
 
 unfoldable pub open_all : Unit {0}

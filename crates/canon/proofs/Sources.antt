@@ -116,10 +116,10 @@ query_source_says t n h S =
     )
 
 -- ── FROM, joins, ON, USING ──
-joined-more : (ps : List Piece) (p : Piece) → joined (ps ++ (p ∷ [])) ≡ joined ps ++ p.toks
+joined_more : (ps : List Piece) (p : Piece) → joined (ps ++ (p ∷ [])) ≡ joined ps ++ p.toks
 unfolding joined
-joined-more [] p = append-nil p.toks
-joined-more (q ∷ ps) p = simp (joined-more ps p, append_assoc)
+joined_more [] p = append-nil p.toks
+joined_more (q ∷ ps) p = simp (joined_more ps p, append_assoc)
 
 pub from_says : HeadSays (FROM ∷ []) (part row_from (nt (any Source) ∷ nt (any Joins?) ∷ [])) From?
 unfolding open_flat fits fit_text
@@ -134,7 +134,7 @@ pub join_of_lem : (d : ℕ) (us : List Tok) → join_of d ≡ us → {v w : Val}
 unfolding open_flat
 join_of_lem d us e L X Y a b a' b' = record {
   same = simp (mean, L.same, X.same, opt_of Y);
-  toks = simp (flat, X.single, Y.opted, joined-more, L.toks, X.toks, Y.toks, e, append-nil, append_assoc);
+  toks = simp (flat, X.single, Y.opted, joined_more, L.toks, X.toks, Y.toks, e, append-nil, append_assoc);
 }
 
 pub comma_join_says : ListSays (COMMA ∷ []) (part row_comma_join (nt (any Source) ∷ nt (any On?) ∷ [])) Joins?

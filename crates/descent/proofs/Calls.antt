@@ -26,7 +26,7 @@ use Rattle.descent.proofs.Places.{kind_at, tok_at, from, wrong, OpenRow, rests}
 use Rattle.descent.proofs.Named.{names_row, own}
 use Rattle.descent.proofs.Walk.{Walked, not_b, called_w, expr_w, list_w, call_w}
 use Rattle.descent.proofs.Grown.{recs}
-use Rattle.descent.proofs.Steps.{nt_got, nt_refused, lit_got, lit_wrong, call_in, call_absent, row-stop}
+use Rattle.descent.proofs.Steps.{nt_got, nt_refused, lit_got, lit_wrong, call_in, call_absent, row_stop}
 use Rattle.descent.proofs.Growing.{recs_one}
 use Rattle.descent.proofs.ClassFacts.{none_of_2, Args_at_STAR, Args_at_DISTINCT, Args_at_RP, Args_may}
 use Rattle.descent.proofs.Rules.{known, value_star_args, value_distinct_args}
@@ -166,7 +166,7 @@ module _ (K T : List ℕ) (good : Good K T) where
         (λ z. told_done (a + 1) 12 0 _ (
           call_kids 0 nm t y (tok_at K T a),
           e ∙ lit_got K T good.sound open_call RP [] (add nil y) a (omega arith) (eqb_eq (kind_at K a) RP z) (no_word c row_of_call nil t _ _ refl)
-              ∙ row-stop K T good.sound open_call _ (a + 1) (ends row_of_call _ (kind_at K (a + 1))),
+              ∙ row_stop K T good.sound open_call _ (a + 1) (ends row_of_call _ (kind_at K (a + 1))),
           refl,
           omega arith,
           (λ m. recs_call m nm t y (tok_at K T a) D n rs d i r),
@@ -182,7 +182,7 @@ module _ (K T : List ℕ) (good : Good K T) where
       args_ok = told_choose (eqb (kind_at K at) STAR) _ _
           (λ z. called (at + 1) 2 0 [] (node star_args nil (tok_at K T at) nil)
           (nt_got K T good.sound open_call (any Args?) (lit RP ∷ []) nil at (rw (call_inside c) (call_in K T good.sound c (any Args?) at star_args (rw (eqb_eq (kind_at K at) STAR z) Args_at_STAR) (star_begins c (tok_at K T at))
-          ∙ row-stop K T good.sound _ nil (at + 1) (shut_tail (any Args?) args_host.among star_args _ (kind_at K (at + 1)) (omega arith)))))
+          ∙ row_stop K T good.sound _ nil (at + 1) (shut_tail (any Args?) args_host.among star_args _ (kind_at K (at + 1)) (omega arith)))))
           (detail_star (tok_at K T at)) (nothing_star (tok_at K T at)).0 (nothing_star (tok_at K T at)).1)
           (λ nz. told_choose (eqb (kind_at K at) RP) _ _
           (λ z. called at 0 0 [] nil (nt_got K T good.sound open_call (any Args?) (lit RP ∷ []) nil at (rw (call_inside c) (call_absent K T good.sound c (any Args?) at (rw (eqb_eq (kind_at K at) RP z) Args_at_RP) Args_may)))
@@ -191,7 +191,7 @@ module _ (K T : List ℕ) (good : Good K T) where
           (λ z. let in' = call_in K T good.sound c (any Args?) at distinct_args (rw (eqb_eq (kind_at K at) DISTINCT z) Args_at_DISTINCT) (distinct_begins c (tok_at K T at)) in
           told_bind (list_w K T f (at + 1) c 0) _ (list (at + 1) c 0 (record { c = c; A = any Args?; r = distinct_args; l = nil; t = tok_at K T at }) [] nil (distinct_inside c))
           (λ a s n rs p. called a 1 n rs (distinct_tree (tok_at K T at) p.0 p.1)
-          (nt_got K T good.sound open_call (any Args?) (lit RP ∷ []) nil at (rw (call_inside c) (in' ∙ p.2 ∙ row-stop K T good.sound (record { c = c; A = any Args?; r = distinct_args; l = nil; t = tok_at K T at }) _ a
+          (nt_got K T good.sound open_call (any Args?) (lit RP ∷ []) nil at (rw (call_inside c) (in' ∙ p.2 ∙ row_stop K T good.sound (record { c = c; A = any Args?; r = distinct_args; l = nil; t = tok_at K T at }) _ a
           (shut_tail (any Args?) args_host.among distinct_args _ (kind_at K a) (omega arith)))))
           (detail_distinct (tok_at K T at) p.0 p.1) (let i = count_distinct (tok_at K T at) p.0 p.1 p.3.1.single in omega (arith, p.4, p.5, i)) (p.6 ∙ recs_distinct (tok_at K T at) p.0 p.1))
           (λ m v p. nt_refused K T good.sound open_call (any Args?) (lit RP ∷ []) nil at (rw (call_inside c) (in' ∙ p))))

@@ -30,7 +30,7 @@ use Rattle.descent.proofs.Means.{Single, Good, ExprOK, CaseOK, BaseOK, WhensOK, 
 use Rattle.descent.proofs.Common.{told_bind, told_map, told_choose, told_done, told_stop, no_word}
 use Rattle.descent.proofs.Sides.{single_count}
 use Rattle.descent.proofs.Tails.{others}
-use Rattle.descent.proofs.Values.{recs_all_1, recs_all_3, count-cons, count_3, is_one}
+use Rattle.descent.proofs.Values.{recs_all_1, recs_all_3, count_cons, count_3, is_one}
 use Rattle.descent.proofs.ExprIn.{takes_any, expr_ends, absent_in, expr_in, expr_absent}
 use Rattle.descent.proofs.OperandRow.{row_ok}
 use Rattle.descent.proofs.NodeRecords.{there, not_there}
@@ -57,7 +57,7 @@ recs_case : (o x z l p : Val) → recs o ++ ((recs x ++ (recs z ++ recs l)) ++ r
 recs_case o x z l p = sym (side_cons o (x ∷ z ∷ l ∷ p ∷ []) ∙ ap (λ r. recs o ++ r) (side_append (x ∷ z ∷ l ∷ []) (p ∷ []) ∙ rw (recs_all_3 x z l, recs_all_1 p)))
 
 count_case : (o x z l p : Val) → Single o.nodes → Single x.nodes → Single z.nodes → Single p.nodes → count l.nodes + 4 ≡ count (side (o ∷ x ∷ z ∷ l ∷ p ∷ []))
-count_case o x z l p a b c d = let i = count-cons o (x ∷ z ∷ l ∷ p ∷ []) in let j = count-cons x (z ∷ l ∷ p ∷ []) in
+count_case o x z l p a b c d = let i = count_cons o (x ∷ z ∷ l ∷ p ∷ []) in let j = count_cons x (z ∷ l ∷ p ∷ []) in
     omega (arith, i, j, count_3 z l p, single_count o.nodes a, single_count x.nodes b, single_count z.nodes c, single_count p.nodes d)
 
 module _ (t : Tok) (y : Tree) (u : Tok) (x : Tree) (v : Tok) (z l e : Tree) (w : Tok) where

@@ -21,7 +21,7 @@ use Rattle.grammar.specs.Limits.{is_query}
 use Rattle.grammar.specs.Reading.{Val, empty, value_of, value, ◌#◌}
 use Rattle.descent.proofs.Places.{kind_at, tok_at, OpenRow, rests}
 use Rattle.descent.proofs.Walk.{missing, expr_w}
-use Rattle.descent.proofs.Steps.{nt_got, nt_refused, call_in, call_absent, row-stop}
+use Rattle.descent.proofs.Steps.{nt_got, nt_refused, call_in, call_absent, row_stop}
 use Rattle.descent.proofs.ClassFacts.{out, none_of_1, firsts_Where, Where_at_WHERE, Where_may, firsts_Having, Having_at_HAVING, Having_may, firsts_Else, Else_at_ELSE, Else_may}
 use Rattle.descent.proofs.Rules.{known, value_where, value_having, value_else}
 use Rattle.descent.proofs.Means.{Good, Clause, ExprOK, ClauseOK}
@@ -70,7 +70,7 @@ module _ (K T : List ℕ) (good : Good K T) (f : ℕ) where
       told_map (expr_w K T f (at + 1) c 1) (expr_got K T good f ok (at + 1) c 1 (omega arith) (omega arith))
       (λ a s m rs p. let same = w.through empty (tok_at K T at) (value p.0) in let o = there (value (node r nil (tok_at K T at) (add nil p.0))) (value p.0) same p.2.single in (
         node r nil (tok_at K T at) (add nil p.0),
-        in' ∙ nt_got K T good.sound F (E 1) [] nil (at + 1) (rw (w.level c) p.1) ∙ row-stop K T good.sound F (add nil p.0) a (w.no_more r _ (kind_at K a)),
+        in' ∙ nt_got K T good.sound F (E 1) [] nil (at + 1) (rw (w.level c) p.1) ∙ row_stop K T good.sound F (add nil p.0) a (w.no_more r _ (kind_at K a)),
         (p.3 ∙ o.1, o.0),
       ))
       (λ m p q. in' ∙ nt_refused K T good.sound F (E 1) [] nil (at + 1) (rw (w.level c) q)))

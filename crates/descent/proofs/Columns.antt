@@ -29,7 +29,7 @@ use Rattle.descent.proofs.Walk.{Walked, done, bind, missing, not_b, over, name_r
 use Rattle.descent.proofs.Grown.{recs}
 use Rattle.descent.proofs.SameRow.{eq_nt, eq_item, eq_items, eq_row, eq_found, same_found, below?, throughout}
 use Rattle.descent.proofs.TableFacts.{BOUND}
-use Rattle.descent.proofs.Steps.{nt_got, nt_refused, call_in, row-stop}
+use Rattle.descent.proofs.Steps.{nt_got, nt_refused, call_in, row_stop}
 use Rattle.descent.proofs.ClassFacts.{none_of_1, firsts_Columns, Columns_at_COMMA, Columns_may, Column_at_STAR, Column_may}
 use Rattle.descent.proofs.Rules.{known, value_next_column, value_star, value_as, value_bare}
 use Rattle.descent.proofs.Means.{Single, plain_code, ExprTree, Exprd, Takes, Told, Good, next_column, Stops, Reads, ExprOK, FurtherColumnsOK, ColumnsOK, ColumnOK}
@@ -117,7 +117,7 @@ module _ (K T : List ℕ) (good : Good K T) (c : Around) where
 
   -- nothing goes on from an alias
   alias_ends : (y : Tree) (u : Tok) (q : Row) (k : Tree) (n : ℕ) → q.str ≡ 0 → rests K T (record { c = c; A = any Column; r = q; l = y; t = u }) [] k n ≡ got (node q y u k) n (from K T n)
-  alias_ends y u q k n z = row-stop K T good.sound (record { c = c; A = any Column; r = q; l = y; t = u }) k n (shut_tail (any Column) column_among q (cap_of k) (kind_at K n) (omega (arith, z)))
+  alias_ends y u q k n z = row_stop K T good.sound (record { c = c; A = any Column; r = q; l = y; t = u }) k n (shut_tail (any Column) column_among q (cap_of k) (kind_at K n) (omega (arith, z)))
 
   -- the optional alias of an expression y
   alias_told : (y : Tree) (said a : ℕ) → ExprTree y said → Stops K T 0 said a
@@ -186,7 +186,7 @@ module _ (K T : List ℕ) (good : Good K T) (c : Around) where
 
         stays : again K T c (any Column) y a ≡ got y a (from K T a)
         stays = subst (λ w. again K T c (any Column) w a ≡ got w a (from K T a)) (sym t.is)
-            (row-stop K T good.sound (record { c = c; A = any Column; r = t.r; l = t.l; t = t.t }) t.k a (shut_tail (any Column) column_among t.r (cap_of t.k) (kind_at K a) (omega (arith, t.shut))))
+            (row_stop K T good.sound (record { c = c; A = any Column; r = t.r; l = t.l; t = t.t }) t.k a (shut_tail (any Column) column_among t.r (cap_of t.k) (kind_at K a) (omega (arith, t.shut))))
 
 -- ── the list of columns ──
 columns_list : ListClass Columns? COMMA next_column

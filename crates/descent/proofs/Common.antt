@@ -28,7 +28,7 @@ use Rattle.descent.proofs.Named.{own}
 use Rattle.descent.proofs.Walk.{Walked, done, stop, spent, bind, onto, expr_w}
 use Rattle.descent.proofs.Grown.{recs}
 use Rattle.descent.proofs.TableFacts.{cont_tight, cont_loose, cont_none}
-use Rattle.descent.proofs.Steps.{row-stop}
+use Rattle.descent.proofs.Steps.{row_stop}
 use Rattle.descent.proofs.ClassFacts.{E_may}
 use Rattle.descent.proofs.Means.{str_of, ExprTree, Exprd, Takes, Right, Told, Good, Stops, ExprOK}
 
@@ -86,7 +86,7 @@ module _ (K T : List ℕ) (good : Good K T) where
   pub again_got : (c : Around) (A : Nt) (y : Tree) (said n : ℕ) → (e : ExprTree y said) → cont_of sql A e.r (cap_of e.k) (kind_at K n) ≡ none → again K T c A y n ≡ got y n (from K T n)
   unfolding again
   again_got c A y said n e o = subst (λ z. again K T c A z n ≡ got z n (from K T n)) (sym e.is)
-      (row-stop K T good.sound (record { c = c; A = A; r = e.r; l = e.l; t = e.t }) e.k n o)
+      (row_stop K T good.sound (record { c = c; A = A; r = e.r; l = e.l; t = e.t }) e.k n o)
 
   pub stops_at : (A : Nt) (s said n : ℕ) → Right A s → (r : Row) (m : ℕ) → min r.str (min r.cap m) ≡ said → Stops K T s said n → cont_of sql A r m (kind_at K n) ≡ none
   stops_at A s said n t r m e (inl z) = t.alone r m (kind_at K n) (good.bound n) z

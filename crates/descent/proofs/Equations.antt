@@ -124,7 +124,7 @@ module _ (K T : List ℕ) (ok : Sound K T) where
       (rest_end_end G Around under judge F.c F.A F.r F.l F.t k n ∙ rw (the_end, cont_end F.A F.r (cap_of k))))
 
 -- the list is over where the kind is the end's
-pub at-end : (K T : List ℕ) → Sound K T → (n : ℕ) → kind_at K n ≡ 0 → from K T n ≡ []
-at-end K T ok n e = by_bool (ltb n (length K))
+pub at_end : (K T : List ℕ) → Sound K T → (n : ℕ) → kind_at K n ≡ 0 → from K T n ≡ []
+at_end K T ok n e = by_bool (ltb n (length K))
     (λ h. absurd (let i = ok.some n (ltb-true n (length K) h) in omega (arith, i, e)))
     (λ h. from_end K T n ok.equal (ltb-false n (length K) h))

@@ -24,7 +24,7 @@ use Rattle.descent.proofs.Negated.{negated_ok}
 use Rattle.descent.proofs.Operators.{operator_ok}
 use Rattle.descent.proofs.Columns.{column_ok, further_columns_ok, columns_ok}
 use Rattle.descent.proofs.OneSource.{source_ok}
-use Rattle.descent.proofs.OnUsing.{on-ok}
+use Rattle.descent.proofs.OnUsing.{on_ok}
 use Rattle.descent.proofs.Joins.{joins_ok}
 use Rattle.descent.proofs.FromClause.{from_ok}
 use Rattle.descent.proofs.SelectClauses.{group_ok, clauses_ok}
@@ -129,7 +129,7 @@ module _ (K T : List ℕ) (good : Good K T) where
     from = from_ok K T good f a.source a.joins;
     source = source_ok K T good f a.query;
     joins = joins_ok K T good f a.source a.on a.joins;
-    on = on-ok K T good f a.expr (names_ok K T good f);
+    on = on_ok K T good f a.expr (names_ok K T good f);
     values = values_ok K T good f a.first_row_lem a.rows;
     first_row_lem = first_row_ok K T good f a.list;
     next_row_lem = next_row_ok K T good f a.list;

@@ -15,10 +15,10 @@ unfolding numbers
 numbers_on [] qs = refl
 numbers_on (rec c d n s ∷ rs) qs = ap (λ (l : List ℕ). c ∷ d ∷ n ∷ s ∷ l) (numbers_on rs qs)
 
-pub length-numbers : (rs : List Rec) → length (numbers rs) ≡ WIDTH * length rs
+pub length_numbers : (rs : List Rec) → length (numbers rs) ≡ WIDTH * length rs
 unfolding numbers
-length-numbers [] = refl
-length-numbers (rec c d n s ∷ rs) = let i = length-numbers rs in omega (arith, i)
+length_numbers [] = refl
+length_numbers (rec c d n s ∷ rs) = let i = length_numbers rs in omega (arith, i)
 
 -- ── parts ──
 pub length_fill : (N : List ℕ) (m : ℕ) (rs : List Rec) → length (fill N m rs) ≡ length N

@@ -26,7 +26,7 @@ use Rattle.descent.proofs.Named.{own}
 use Rattle.descent.proofs.Walk.{Walked, not_b, expr_w, list_w}
 use Rattle.descent.proofs.Grown.{recs}
 use Rattle.descent.proofs.SameRow.{eq_nt, eq_item, eq_items, eq_row, eq_found, same_found}
-use Rattle.descent.proofs.Steps.{nt_got, nt_refused, lit_wrong, row-stop}
+use Rattle.descent.proofs.Steps.{nt_got, nt_refused, lit_wrong, row_stop}
 use Rattle.descent.proofs.ClassFacts.{none_of_1}
 use Rattle.descent.proofs.Rules.{value_more_exprs}
 use Rattle.descent.proofs.Means.{Single, plain_code, ExprTree, Told, Good, ExprOK, ListOK, HostOK}
@@ -124,7 +124,7 @@ module _ (K T : List ℕ) (good : Good K T) (f : ℕ) (ok : ExprOK K T f) (at : 
       told_onto rs (list_w K T f (a + 1) c 1) (list (a + 1) c 1 (record { c = c; A = any C; r = more_row; l = p.0; t = tok_at K T a }) [] nil (more_inside c))
       (λ b s m qs q. let counted = count_several p.0 (tok_at K T a) q.0 q.1 p.2.single q.3.1.single in (
         several p.0 (tok_at K T a) q.0 q.1,
-        nt_got K T good.sound F (any C) (lit RP ∷ []) k at (rw e (on ∙ q.2 ∙ row-stop K T good.sound (record { c = c; A = any C; r = more_row; l = p.0; t = tok_at K T a }) _ b
+        nt_got K T good.sound F (any C) (lit RP ∷ []) k at (rw e (on ∙ q.2 ∙ row_stop K T good.sound (record { c = c; A = any C; r = more_row; l = p.0; t = tok_at K T a }) _ b
             (shut_tail (any C) h.among more_row _ (kind_at K b) (omega arith)))),
         plain_several p.0 (tok_at K T a) q.0 q.1,
         omega (arith, q.4, q.5, counted),

@@ -23,7 +23,7 @@ use Rattle.descent.proofs.Places.{kind_at, tok_at, wrong, OpenRow, calls, rests}
 use Rattle.descent.proofs.Named.{own}
 use Rattle.descent.proofs.Walk.{Walked, done, over, wrong_at, ended_w, expr_w, list_w, query_w}
 use Rattle.descent.proofs.Grown.{recs}
-use Rattle.descent.proofs.Steps.{nt_got, nt_refused, lit_got, lit_wrong, call_absent, row-stop}
+use Rattle.descent.proofs.Steps.{nt_got, nt_refused, lit_got, lit_wrong, call_absent, row_stop}
 use Rattle.descent.proofs.ClassFacts.{none_of_2, Inside_at_SELECT, Inside_at_VALUES, Inside_at_RP, Inside_may}
 use Rattle.descent.proofs.Means.{Single, plain_code, Told, Good, QueryNode, InsideOK, HostOK, QueryOK}
 use Rattle.descent.proofs.Common.{told_bind, told_choose, told_done, told_stop, no_word}
@@ -132,7 +132,7 @@ module _ (K T : List ℕ) (good : Good K T) (f : ℕ) where
       a_query_lem z a rs r k e q st nd = let x = node r nil (tok_at K T (at + 1)) k in let h = inside_query (value x) (query_val r (tok_at K T (at + 1)) k q) in
           ended F at not pre u x a 42 rs j
           (lp z ∙ nt_got K T good.sound F (any Inside?) (lit RP ∷ []) (add nil (leaf u)) (at + 1)
-          (rw b (e ∙ row-stop K T good.sound (record { c = c; A = any Inside?; r = r; l = nil; t = tok_at K T (at + 1) }) k a (shut_tail (any Inside?) among r (cap_of k) (kind_at K a) (omega (arith, st))))))
+          (rw b (e ∙ row_stop K T good.sound (record { c = c; A = any Inside?; r = r; l = nil; t = tok_at K T (at + 1) }) k a (shut_tail (any Inside?) among r (cap_of k) (kind_at K a) (omega (arith, st))))))
           (query_code (value x) (query_val r (tok_at K T (at + 1)) k q)) (rw h (sym nd.records)) (rw h nd.single)
 
       -- nothing

@@ -29,7 +29,7 @@ use Rattle.descent.proofs.Walk.{done, onto, deeper, not_b, name_rec, dots_w, dot
 use Rattle.descent.proofs.Grown.{recs}
 use Rattle.descent.proofs.SameRow.{below?, throughout}
 use Rattle.descent.proofs.TableFacts.{BOUND}
-use Rattle.descent.proofs.Steps.{nt_got, nt_refused, call_in, call_absent, row-stop}
+use Rattle.descent.proofs.Steps.{nt_got, nt_refused, call_in, call_absent, row_stop}
 use Rattle.descent.proofs.Means.{Single, plain_code, str_of, ExprTree, StarTree, Exprd, Told, Good, LeafOK, call_row, CallOK}
 use Rattle.descent.proofs.Common.{told_onto, told_map, told_choose, told_done, part_no_word}
 use Rattle.descent.proofs.NoTails.{ends}
@@ -121,13 +121,13 @@ module _ (K T : List ℕ) (good : Good K T) where
       told_done (n + 2) 0 0 (rec 6 0 1 2 ∷ []) (
         dot_star R t D (tok_at K T n) (tok_at K T (n + 1)),
         on z ∙ nt_got K T good.sound F (any D) [] nil (n + 1) (star (col no) (eqb_eq (kind_at K (n + 1)) STAR (both_r (eqb s 0) (eqb (kind_at K (n + 1)) STAR) w)))
-            ∙ row-stop K T good.sound F _ (n + 2) (ends R (rest_ends C k) (dot_row D) _ (kind_at K (n + 2))),
+            ∙ row_stop K T good.sound F _ (n + 2) (ends R (rest_ends C k) (dot_row D) _ (kind_at K (n + 2))),
         inr (refl, no, star_tree R t D (tok_at K T n) (tok_at K T (n + 1)), star_recs R t D (tok_at K T n) (tok_at K T (n + 1))),
       ))
       (λ w. told_map (dots_w K T n) (dots_read K T good D (second_may C) (second_ends C) n c (second_here C (kind_at K (n + 1)) (good.bound (n + 1)) (no_star w)))
       (λ a said m rs q. (
         node (dot_row D) nil (tok_at K T n) (add nil q.0),
-        on z ∙ nt_got K T good.sound F (any D) [] nil (n + 1) q.1 ∙ row-stop K T good.sound F _ a (ends R (rest_ends C k) (dot_row D) _ (kind_at K a)),
+        on z ∙ nt_got K T good.sound F (any D) [] nil (n + 1) q.1 ∙ row_stop K T good.sound F _ a (ends R (rest_ends C k) (dot_row D) _ (kind_at K a)),
         inl (q.2, names_dots R t K T good D (tok_at K T n) q.0 rs q.3),
       ))
       (λ m p e. on z ∙ nt_refused K T good.sound F (any D) [] nil (n + 1) e)))
@@ -151,7 +151,7 @@ module _ (K T : List ℕ) (good : Good K T) where
 
       star : C ≡ Column → kind_at K (n + 1) ≡ STAR → calls K T c (any D) (n + 1) ≡ got (node (ending row_dot_star []) nil (tok_at K T (n + 1)) nil) (n + 2) (from K T (n + 2))
       star e d = call_in K T good.sound c (any D) (n + 1) (ending row_dot_star []) (rw d (star_here C e)) (part_no_word c (ending row_dot_star []) (tok_at K T (n + 1)) refl refl)
-          ∙ row-stop K T good.sound (record { c = c; A = any D; r = ending row_dot_star []; l = nil; t = tok_at K T (n + 1) }) nil (n + 1 + 1) (ends D (second_ends C) (ending row_dot_star []) _ (kind_at K (n + 1 + 1)))
+          ∙ row_stop K T good.sound (record { c = c; A = any D; r = ending row_dot_star []; l = nil; t = tok_at K T (n + 1) }) nil (n + 1 + 1) (ends D (second_ends C) (ending row_dot_star []) _ (kind_at K (n + 1 + 1)))
           ∙ ap (λ z. got (node (ending row_dot_star []) nil (tok_at K T (n + 1)) nil) z (from K T z)) (omega arith)
 
       no_star : both (eqb s 0) (eqb (kind_at K (n + 1)) STAR) ≡ false → C ≡ Column → kind_at K (n + 1) ≡ STAR → ⊥

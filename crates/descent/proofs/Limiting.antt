@@ -23,7 +23,7 @@ use Rattle.grammar.specs.Reading.{Val, side, choose, is_end, none_there, opt, li
 use Rattle.descent.proofs.Places.{kind_at, tok_at, from, OpenRow, calls, rests}
 use Rattle.descent.proofs.Walk.{done, onto, missing, expr_w, sort_w, limit_w}
 use Rattle.descent.proofs.Grown.{recs}
-use Rattle.descent.proofs.Steps.{nt_got, nt_refused, call_in, call_absent, row-stop}
+use Rattle.descent.proofs.Steps.{nt_got, nt_refused, call_in, call_absent, row_stop}
 use Rattle.descent.proofs.Growing.{records_beside, count_beside}
 use Rattle.descent.proofs.ClassFacts.{out, none_of_1, none_of_2, firsts_Order, Order_at_ORDER, Order_may, firsts_Limit, Limit_at_LIMIT, Limit_may, firsts_Offset, Offset_at_OFFSET, Offset_at_COMMA, Offset_may}
 use Rattle.descent.proofs.Means.{Single, Told, Good, ExprOK, TailOK, order_row, OrderOK, LimitOK}
@@ -109,7 +109,7 @@ module _ (K T : List ℕ) (good : Good K T) (f : ℕ) where
       ended : (e o : Tree) (a : ℕ) → calls K T c (any Limit?) at ≡ rests K T F (nt (any Offset?) ∷ []) (add nil e) a → (b : ℕ) → calls K T c (any Offset?) a ≡ got o b (from K T b)
           → calls K T c (any Limit?) at ≡ got (node limit_row nil (tok_at K T at) (add (add nil e) o)) b (from K T b)
       ended e o a first b h = first ∙ nt_got K T good.sound F (any Offset?) [] (add nil e) a (rw (below_part limit_row c refl refl) h)
-          ∙ row-stop K T good.sound F (add (add nil e) o) b (ends Limit? refl limit_row (cap_of (add (add nil e) o)) (kind_at K b))
+          ∙ row_stop K T good.sound F (add (add nil e) o) b (ends Limit? refl limit_row (cap_of (add (add nil e) o)) (kind_at K b))
 
       single_end : (e : Tree) → Single (value e).nodes → Single (beside (value e).nodes end)
       single_end e s = (s.0, s.1, s.2, beside_end (value e).nodes ∙ s.3)

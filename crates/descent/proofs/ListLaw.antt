@@ -22,7 +22,7 @@ use Rattle.grammar.specs.Reading.{Val, side, choose, value_of, value}
 use Rattle.descent.proofs.Places.{kind_at, tok_at, from, OpenRow, calls, rests}
 use Rattle.descent.proofs.Walk.{Walked, done, bind, onto, κ}
 use Rattle.descent.proofs.Grown.{recs}
-use Rattle.descent.proofs.Steps.{nt_got, nt_refused, call_in, call_absent, row_on, row-stop}
+use Rattle.descent.proofs.Steps.{nt_got, nt_refused, call_in, call_absent, row_on, row_stop}
 use Rattle.descent.proofs.ClassFacts.{out, none_of_1}
 use Rattle.descent.proofs.Means.{Told, Good, Further}
 use Rattle.descent.proofs.Common.{told_bind, told_onto, told_choose, told_done, part_no_word, goes_no_word}
@@ -57,7 +57,7 @@ module _ (K T : List ℕ) (good : Good K T) {C sep : ℕ} {r : Row} (list : List
         (goes_no_word c r q l t (tok_at K T n) k)
 
     pub list_stop : (kind_at K n ≡ sep → ⊥) → rests K T (record { c = c; A = any C; r = q; l = l; t = t }) [] k n ≡ got (node q l t k) n (from K T n)
-    list_stop f = row-stop K T good.sound (record { c = c; A = any C; r = q; l = l; t = t }) k n (no_cont (any C) q (cap_of k) (kind_at K n) (rw list.goes_only (none_of_1 f)))
+    list_stop f = row_stop K T good.sound (record { c = c; A = any C; r = q; l = l; t = t }) k n (no_cont (any C) q (cap_of k) (kind_at K n) (rw list.goes_only (none_of_1 f)))
 
 -- ── a list of members that are one item each ──
 -- what a member's value stands for in the list

@@ -13,7 +13,7 @@ use Rattle.grammar.specs.Classes.{any}
 use Rattle.grammar.specs.Grammar.{sql, G}
 use Rattle.grammar.specs.Limits.{Around, is_query}
 use Rattle.descent.proofs.Places.{kind_at, tok_at, from, OpenRow, rests}
-use Rattle.descent.proofs.Steps.{call_absent, row_on, row-stop}
+use Rattle.descent.proofs.Steps.{call_absent, row_on, row_stop}
 use Rattle.descent.proofs.Means.{Good, goes_on}
 use Rattle.descent.proofs.Common.{goes_no_word}
 use Rattle.descent.proofs.PlainClasses.{begin}
@@ -36,7 +36,7 @@ module _ (K T : List ℕ) (good : Good K T) (C : ℕ) (ls : Lists G (any C)) (c 
   goes_out nil b n e z = call_absent K T good.sound c (any C) n e z
   goes_out (add f y) b n e z = absurd b
   goes_out (leaf t) b n e z = absurd b
-  goes_out (node p l t k) b n e z = row-stop K T good.sound (record { c = c; A = any C; r = p; l = l; t = t }) k n (ls p (cap_of k) (kind_at K n) ∙ e)
+  goes_out (node p l t k) b n e z = row_stop K T good.sound (record { c = c; A = any C; r = p; l = l; t = t }) k n (ls p (cap_of k) (kind_at K n) ∙ e)
 
   -- a whole row is the list so far
   pub goes_with : (r : Row) (x k : Tree) (n a : ℕ) → rests K T (further r x n) [] k a ≡ goes_on K T c (any C) (node r x (tok_at K T n) k) a

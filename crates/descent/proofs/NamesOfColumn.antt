@@ -27,7 +27,7 @@ use Rattle.descent.proofs.Named.{rest_of}
 use Rattle.descent.proofs.Walk.{over, name_rec, dots_w}
 use Rattle.descent.proofs.Grown.{recs}
 use Rattle.descent.proofs.TableFacts.{BOUND}
-use Rattle.descent.proofs.Steps.{nt_got, nt_refused, call_in, call_absent, call_wrong, row-stop}
+use Rattle.descent.proofs.Steps.{nt_got, nt_refused, call_in, call_absent, call_wrong, row_stop}
 use Rattle.descent.proofs.ClassFacts.{out, none_of_1, none_of_2, firsts_ColRest, ColRest_at_DOT, ColRest_at_LP, ColRest_may, firsts_ColDots, ColDots_at_DOT, ColDots_may, StarOrName_at_STAR, StarOrName_may, SecondName_may, firsts_Dot, Dot_at_DOT, Dot_may, firsts_NameRest, NameRest_at_LP, NameRest_at_DOT, NameRest_may, firsts_Dots, Dots_at_DOT, Dots_may}
 use Rattle.descent.proofs.Means.{Told, Good, call_row}
 use Rattle.descent.proofs.Common.{told_choose, told_done, part_no_word}
@@ -135,7 +135,7 @@ module _ (K T : List ℕ) (good : Good K T) where
         (λ i. told_done (at + 1 + 1 + 1 + 1) 12 0 _ (
           node second_row nil (tok_at K T (at + 1)) (add nil (node dot_name_row nil (tok_at K T (at + 1 + 1)) (add nil (name_tree K T good (at + 1 + 1 + 1))))),
           on z ∙ nt_got K T good.sound F (any Dot?) [] nil (at + 1 + 1) (dot_got (at + 1 + 1) c (eqb_eq (kind_at K (at + 1 + 1)) DOT d) i)
-              ∙ row-stop K T good.sound F _ (at + 1 + 1 + 1 + 1) (ends D plain second_row _ (kind_at K (at + 1 + 1 + 1 + 1))),
+              ∙ row_stop K T good.sound F _ (at + 1 + 1 + 1 + 1) (ends D plain second_row _ (kind_at K (at + 1 + 1 + 1 + 1))),
           refl,
           after_two (at + 1) (at + 1 + 1 + 1) (tok_at K T (at + 1 + 1)),
         ))
@@ -143,7 +143,7 @@ module _ (K T : List ℕ) (good : Good K T) where
         (λ d. told_done (at + 1 + 1) 12 0 _ (
           node second_row nil (tok_at K T (at + 1)) (add nil nil),
           on z ∙ nt_got K T good.sound F (any Dot?) [] nil (at + 1 + 1) (dot_absent (at + 1 + 1) c (eqb-false (kind_at K (at + 1 + 1)) DOT d))
-              ∙ row-stop K T good.sound F _ (at + 1 + 1) (ends D plain second_row _ (kind_at K (at + 1 + 1))),
+              ∙ row_stop K T good.sound F _ (at + 1 + 1) (ends D plain second_row _ (kind_at K (at + 1 + 1))),
           refl,
           after_one (at + 1),
         )))

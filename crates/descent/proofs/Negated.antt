@@ -22,7 +22,7 @@ use Rattle.grammar.specs.Reading.{Val, empty, side, cat, one, choose, is_query_v
 use Rattle.descent.proofs.Places.{kind_at, tok_at, wrong, OpenRow, calls, rests}
 use Rattle.descent.proofs.Named.{own, not_row}
 use Rattle.descent.proofs.Walk.{Walked, done, over, wrong_at, expr_w, binary_w, range_w, among_w}
-use Rattle.descent.proofs.Steps.{nt_got, nt_refused, call_in, call_wrong, row-stop}
+use Rattle.descent.proofs.Steps.{nt_got, nt_refused, call_in, call_wrong, row_stop}
 use Rattle.descent.proofs.Growing.{records_beside, count_beside}
 use Rattle.descent.proofs.ClassFacts.{out, firsts_Not, Not_at_LIKE_KW, Not_at_IN, Not_at_BETWEEN, Not_at_NULL, Not_may}
 use Rattle.descent.proofs.Means.{Single, Good, Goes, NegatedOK, BinaryOK, BetweenOK, InsideOK}
@@ -65,7 +65,7 @@ module _ (K T : List ℕ) (good : Good K T) (f : ℕ) (at : ℕ) (c : Around) (p
   whole_part : (r : Row) (k : Tree) (a : ℕ) → calls K T c (any Not) at ≡ rests K T (inner r) [] k a
       → rests K T F (nt (any Not) ∷ []) nil at ≡ rests K T F [] (add nil (node r nil (tok_at K T at) k)) a
   unfolding plain_classes mem pick
-  whole_part r k a e = nt_got K T good.sound F (any Not) [] nil at (rw b (e ∙ row-stop K T good.sound (inner r) k a (ends Not refl r (cap_of k) (kind_at K a))))
+  whole_part r k a e = nt_got K T good.sound F (any Not) [] nil at (rw b (e ∙ row_stop K T good.sound (inner r) k a (ends Not refl r (cap_of k) (kind_at K a))))
 
   -- its value, beside the left operand's
   abbrev node' : Tree → Val

@@ -85,9 +85,9 @@ module _ (K T : List ℕ) (good : Good K T) (f : ℕ) where
       (λ m i e. l ∙ e))
       (λ y. told_stop (wrong (kind_at K (at + 1))) (at + 1) (b ∙ not_took K T good F LP (nt (any Name) ∷ nt (any Names?) ∷ lit RP ∷ []) nil (at + 1) (omega arith) y))
 
-  pub on-ok : ExprOK K T f → NamesOK K T f → OnOK K T (suc f)
+  pub on_ok : ExprOK K T f → NamesOK K T f → OnOK K T (suc f)
   unfolding on_w is_query below pick plain_classes mem value values value_of ruled rules ◌#◌
-  on-ok ex ok at c = told_choose (eqb (kind_at K at) ON) _ _
+  on_ok ex ok at c = told_choose (eqb (kind_at K at) ON) _ _
       (λ z. told_bind (expr_w K T f (at + 1) c 1) _
       (one_item K T good c On? on_part (E 1) at _ _ refl (ap (enter_of sql (any On?)) (eqb_eq (kind_at K at) ON z) ∙ On_at_ON) refl refl refl (expr_reads K T good f ex (at + 1) c))
       (λ a s n rs p. told_done a 0 0 (over 10 0 1 0 rs)

@@ -29,7 +29,7 @@ use Rattle.descent.proofs.Named.{own, is_row, like_row, in_row, between_row, not
 use Rattle.descent.proofs.Walk.{Walked, done, over, name_rec, collate_w, expr_w, negated_w, binary_w, range_w, among_w}
 use Rattle.descent.proofs.SameRow.{eq_items, eq_row, same_row, below?, throughout}
 use Rattle.descent.proofs.TableFacts.{BOUND}
-use Rattle.descent.proofs.Steps.{nt_got, nt_refused, call_in, row-stop}
+use Rattle.descent.proofs.Steps.{nt_got, nt_refused, call_in, row_stop}
 use Rattle.descent.proofs.Growing.{records_beside}
 use Rattle.descent.proofs.ClassFacts.{IsRight_at_NOT, IsRight_may}
 use Rattle.descent.proofs.Means.{Right, Good, Goes, OperatorOK, NegatedOK, BinaryOK, BetweenOK, InsideOK}
@@ -212,7 +212,7 @@ module _ (K T : List ℕ) (good : Good K T) (f : ℕ) (at : ℕ) (c : Around) (p
           ∙ ap (λ i. rests K T (inner (tok_at K T (at + 1))) is_not_row.items nil i) (omega arith)
 
       ends : (u : Tok) (x : Tree) (a : ℕ) → rests K T (inner u) [] (add nil x) a ≡ got (node is_not_row nil u (add nil x)) a (from K T a)
-      ends u x a = row-stop K T good.sound (inner u) (add nil x) a (shut_is (cap_of x) (kind_at K a))
+      ends u x a = row_stop K T good.sound (inner u) (add nil x) a (shut_is (cap_of x) (kind_at K a))
 
   over_collate : F.r ≡ collate_row → (x : Tree) → Over (add nil x) node_collate 0 (value x ∷ [])
   unfolding value value_of ruled rules pick

@@ -23,7 +23,7 @@ use Rattle.descent.proofs.Places.{kind_at, tok_at, wrong, OpenRow}
 use Rattle.descent.proofs.Named.{parens_row, exists_row, own}
 use Rattle.descent.proofs.Walk.{over, κ, expr_w, list_w, sub_w, query_w}
 use Rattle.descent.proofs.Grown.{recs}
-use Rattle.descent.proofs.Steps.{nt_got, nt_refused, lit_got, lit_wrong, row-stop}
+use Rattle.descent.proofs.Steps.{nt_got, nt_refused, lit_got, lit_wrong, row_stop}
 use Rattle.descent.proofs.ClassFacts.{out, none_of_2, firsts_Query, Query_at_SELECT, Query_at_VALUES, Query_may, Paren_at_SELECT, Paren_at_VALUES, Paren_may}
 use Rattle.descent.proofs.Rules.{known, value_parens, value_exists}
 use Rattle.descent.proofs.Means.{Single, plain_code, Good, HostOK, ParenOK, ExistsOK, BracketedOK, QueryOK}
@@ -54,7 +54,7 @@ module _ (K T : List ℕ) (good : Good K T) (f : ℕ) where
   unfolding expr_w
   bracketed_ok ok at c code C F k w e j = told_bind (query_w K T f at c) _
       (ok at c (any C) [] (quoted w).select (quoted w).vals (wrong_there w))
-      (λ a x n rs p. let first = nt_got K T good.sound F (any C) (lit RP ∷ []) k at (rw e (p.2 ∙ row-stop K T good.sound (record { c = c; A = any C; r = p.0; l = nil; t = tok_at K T at }) p.1 a
+      (λ a x n rs p. let first = nt_got K T good.sound F (any C) (lit RP ∷ []) k at (rw e (p.2 ∙ row_stop K T good.sound (record { c = c; A = any C; r = p.0; l = nil; t = tok_at K T at }) p.1 a
       ((quoted w).ends p.0 (cap_of p.1) (kind_at K a) p.4))) in
       close_told K T a code 0 1 rs
       (λ z. (

@@ -25,7 +25,7 @@ use Rattle.descent.proofs.Places.{kind_at, tok_at, from, wrong, OpenRow, calls, 
 use Rattle.descent.proofs.Walk.{Walked, expr_w}
 use Rattle.descent.proofs.Grown.{recs}
 use Rattle.descent.proofs.SameRow.{eq_found, same_found}
-use Rattle.descent.proofs.Steps.{nt_got, nt_refused, lit_got, lit_wrong, call_in, call_absent, row-stop}
+use Rattle.descent.proofs.Steps.{nt_got, nt_refused, lit_got, lit_wrong, call_in, call_absent, row_stop}
 use Rattle.descent.proofs.ClassFacts.{out}
 use Rattle.descent.proofs.Means.{Single, Told, Good, Reads, ExprOK}
 use Rattle.descent.proofs.Common.{told_map, expr_got, no_word, part_no_word}
@@ -57,7 +57,7 @@ module _ (K T : List ℕ) (good : Good K T) where
 
   pub whole : (c : Around) (C : ℕ) (r : Row) (n : ℕ) (k : Tree) (a : ℕ) → mem C plain_classes ≡ true
       → rests K T (opened K T c C r n) [] k a ≡ got (node r nil (tok_at K T n) k) a (from K T a)
-  whole c C r n k a p = row-stop K T good.sound (opened K T c C r n) k a (ends C p r (cap_of k) (kind_at K a))
+  whole c C r n k a p = row_stop K T good.sound (opened K T c C r n) k a (ends C p r (cap_of k) (kind_at K a))
 
   -- at no kind of its own it is absent
   pub absent : (c : Around) (C : ℕ) (n : ℕ) → mem (kind_at K n) (kinds_of C (λ r. true) sql.heads) ≡ false → null_of sql (any C) ≡ true → calls K T c (any C) n ≡ got nil n (from K T n)

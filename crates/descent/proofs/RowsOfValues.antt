@@ -24,7 +24,7 @@ use Rattle.grammar.specs.Reading.{side, one, rules, ruled, value_of, value}
 use Rattle.descent.proofs.Places.{kind_at, tok_at, wrong, OpenRow, calls, rests}
 use Rattle.descent.proofs.Walk.{Walked, done, stop, not_b, over, wrong_at, expr_w, list_w, rows_w, row_w}
 use Rattle.descent.proofs.Grown.{recs_all, recs}
-use Rattle.descent.proofs.Steps.{lit_got, lit_word, lit_wrong, call_in, call_wrong, row_on, row-stop}
+use Rattle.descent.proofs.Steps.{lit_got, lit_word, lit_wrong, call_in, call_wrong, row_on, row_stop}
 use Rattle.descent.proofs.Growing.{records_beside, side_cons, count_beside}
 use Rattle.descent.proofs.ClassFacts.{out, none_of_1, firsts_Rows, Rows_at_LP, Rows_may}
 use Rattle.descent.proofs.Means.{Single, Told, Good, ListOK, ValuesOK, next_row, first_row, FirstRowOK, NextRowOK, RowsOK}
@@ -178,7 +178,7 @@ module _ (K T : List ℕ) (good : Good K T) (f : ℕ) where
       told_onto rs (rows_w K T f (a + 1) c (0 + 1) w) (more (a + 1) c 1 w y (tok_at K T a) p.2 (sym (wide_of p.0 w p.3)) (sym (single_count (value y).nodes p.5)))
       (λ b s m qs q. (q.0, p.1 ∙ on ∙ q.1, (q.2, rw p.4 (sym q.3))))
       (λ m q e. p.1 ∙ on ∙ e))
-      (λ z. told_done a 0 1 rs (y, p.1 ∙ row-stop K T good.sound F p.0 a (rows_off (kind_at K a) (eqb-false (kind_at K a) COMMA z) (first_row K T) (cap_of p.0)), (sym (single_count (value y).nodes p.5), p.4))))
+      (λ z. told_done a 0 1 rs (y, p.1 ∙ row_stop K T good.sound F p.0 a (rows_off (kind_at K a) (eqb-false (kind_at K a) COMMA z) (first_row K T) (cap_of p.0)), (sym (single_count (value y).nodes p.5), p.4))))
       (λ m p e. e)
     where
       wide_of : (k : Tree) (w : ℕ) → w ≡ width k → w ≡ width_of (node (first_row K T) nil (tok_at K T at) k)
@@ -195,7 +195,7 @@ module _ (K T : List ℕ) (good : Good K T) (f : ℕ) where
       told_onto rs (rows_w K T f (a + 1) c (n + 1) w) (more (a + 1) c (n + 1) w x (tok_at K T a) (omega (arith, p.2, pos)) (sym (wide_of y u p.0 w p.3)) (omega (arith, p.4, n-is)))
       (λ b s m qs q. (q.0, p.1 ∙ on ∙ q.1, q.2, q.3 ∙ ap (λ z. z ++ qs) p.5 ∙ append_assoc (recs (value y)) rs qs))
       (λ m q e. p.1 ∙ on ∙ e))
-      (λ z. told_done a 0 (n + 1) rs (x, p.1 ∙ row-stop K T good.sound F p.0 a (rows_off (kind_at K a) (eqb-false (kind_at K a) COMMA z) (next_row K T) (cap_of p.0)), omega (arith, p.4, n-is), p.5)))
+      (λ z. told_done a 0 (n + 1) rs (x, p.1 ∙ row_stop K T good.sound F p.0 a (rows_off (kind_at K a) (eqb-false (kind_at K a) COMMA z) (next_row K T) (cap_of p.0)), omega (arith, p.4, n-is), p.5)))
       (λ m p e. e)
     where
       wide_of : (y : Tree) (u : Tok) (k : Tree) (w : ℕ) → w ≡ width k → w ≡ width_of (node (next_row K T) y u k)

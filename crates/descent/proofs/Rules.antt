@@ -203,9 +203,9 @@ pub value_binary : (l : Val) (t : Tok) (k : List Val) → value_of row_binary l 
 unfolding value_of ruled rules pick
 value_binary l t k = refl
 
-pub value-is : (l : Val) (t : Tok) (k : List Val) → value_of row_is l t k ≡ known row_is (one node_binary (t.kind + (k # 0).num) (l ∷ k))
+pub value_is : (l : Val) (t : Tok) (k : List Val) → value_of row_is l t k ≡ known row_is (one node_binary (t.kind + (k # 0).num) (l ∷ k))
 unfolding value_of ruled rules pick
-value-is l t k = refl
+value_is l t k = refl
 
 pub value_is_not : (l : Val) (t : Tok) (k : List Val) → value_of row_is_not l t k ≡ known row_is_not (saying 100 (cat k))
 unfolding value_of ruled rules pick

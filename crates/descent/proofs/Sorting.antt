@@ -25,7 +25,7 @@ use Rattle.grammar.specs.Reading.{side, one, rules, ruled, value_of, value, ◌#
 use Rattle.descent.proofs.Places.{kind_at, tok_at, from, wrong, OpenRow, calls, rests}
 use Rattle.descent.proofs.Walk.{Walked, done, bind, over, wrong_at, nulls_w, way_w, expr_w, terms_w}
 use Rattle.descent.proofs.Grown.{recs}
-use Rattle.descent.proofs.Steps.{nt_got, nt_refused, lit_got, lit_wrong, call_in, call_absent, call_wrong, row_on, row-stop}
+use Rattle.descent.proofs.Steps.{nt_got, nt_refused, lit_got, lit_wrong, call_in, call_absent, call_wrong, row_on, row_stop}
 use Rattle.descent.proofs.Growing.{side_cons, count_beside}
 use Rattle.descent.proofs.ClassFacts.{out, none_of_1, none_of_2, firsts_Terms, Terms_at_COMMA, Terms_may, firsts_Way, Way_at_ASC, Way_at_DESC, Way_may, firsts_Nulls, Nulls_at_NULLS, Nulls_may, firsts_FirstLast, FirstLast_at_FIRST, FirstLast_at_LAST, FirstLast_may}
 use Rattle.descent.proofs.Means.{Single, Told, Good, next_term, ExprOK, FurtherTermsOK, order_row, OrderOK, TermsOK}
@@ -138,7 +138,7 @@ module _ (K T : List ℕ) (good : Good K T) where
         (λ m p g. r ∙ on ∙ g))
         (λ z. told_done b 0 (n + 1) (over 14 way 1 0 rs) (
           y,
-          r ∙ row-stop K T good.sound F (add (add (add nil e) w) v) b
+          r ∙ row_stop K T good.sound F (add (add (add nil e) w) v) b
               (no_cont (any Terms?) next_term (cap_of (add (add (add nil e) w) v)) (kind_at K b) (ap (mem (kind_at K b)) tails_Terms ∙ none_of_1 (eqb-false (kind_at K b) COMMA z))),
           omega (arith, many e w v),
           grown e w v way rs q s h,
@@ -198,7 +198,7 @@ module _ (K T : List ℕ) (good : Good K T) where
         (λ a s n rs p. let k : Tree = add (add (add (add (add nil (leaf (tok_at K T at))) p.0) p.1) p.2) p.3 in
         told_done a 0 0 (over 4 0 n 0 rs) (
           node (order_row K T) nil u k,
-          begin ∙ p.4 ∙ row-stop K T good.sound F k a (ends Order? refl (order_row K T) (cap_of k) (kind_at K a)),
+          begin ∙ p.4 ∙ row_stop K T good.sound F k a (ends Order? refl (order_row K T) (cap_of k) (kind_at K a)),
           listed n rs ((value p.1).num + 4 * (value p.2).num) p.0 p.3 p.5 p.6,
           one_single node_list 0 (one node_sort ((value p.1).num + 4 * (value p.2).num) (value p.0 ∷ []) ∷ value p.3 ∷ []),
         ))

@@ -67,10 +67,10 @@ module _ (K T : List ℕ) (ok : Sound K T) where
   unfolding on_row check
   row_on F k n q e j = end_at K T ok F k n ∙ rw (e, j)
 
-  pub row-stop : (F : OpenRow) (k : Tree) (n : ℕ) → cont_of sql F.A F.r (cap_of k) (kind_at K n) ≡ none
+  pub row_stop : (F : OpenRow) (k : Tree) (n : ℕ) → cont_of sql F.A F.r (cap_of k) (kind_at K n) ≡ none
       → rests K T F [] k n ≡ got (node F.r F.l F.t k) n (from K T n)
   unfolding on_row
-  row-stop F k n e = end_at K T ok F k n ∙ rw e
+  row_stop F k n e = end_at K T ok F k n ∙ rw e
 
   pub again_is : (F : OpenRow) (k : Tree) (n : ℕ) → rests K T F [] k n ≡ again K T F.c F.A (node F.r F.l F.t k) n
   unfolding again

@@ -61,18 +61,18 @@ pub count_none : count (side []) ≡ 0
 unfolding count side
 count_none = refl
 
-pub count-cons : (v : Val) (vs : List Val) → count (side (v ∷ vs)) ≡ count v.nodes + count (side vs)
+pub count_cons : (v : Val) (vs : List Val) → count (side (v ∷ vs)) ≡ count v.nodes + count (side vs)
 unfolding side
-count-cons v vs = count_beside v.nodes (side vs)
+count_cons v vs = count_beside v.nodes (side vs)
 
 pub count_1 : (u : Val) → count (side (u ∷ [])) ≡ count u.nodes
-count_1 u = omega (arith, count-cons u [], count_none)
+count_1 u = omega (arith, count_cons u [], count_none)
 
 pub count_2 : (u v : Val) → count (side (u ∷ v ∷ [])) ≡ count u.nodes + count v.nodes
-count_2 u v = omega (arith, count-cons u (v ∷ []), count_1 v)
+count_2 u v = omega (arith, count_cons u (v ∷ []), count_1 v)
 
 pub count_3 : (u v w : Val) → count (side (u ∷ v ∷ w ∷ [])) ≡ count u.nodes + count v.nodes + count w.nodes
-count_3 u v w = omega (arith, count-cons u (v ∷ w ∷ []), count_2 v w)
+count_3 u v w = omega (arith, count_cons u (v ∷ w ∷ []), count_2 v w)
 
 -- ── one node over values ──
 -- its records, by the number of its children and their records

@@ -28,8 +28,8 @@ use Rattle.grammar.proofs.Checked.{sql_laws}
 use Rattle.grammar.proofs.Promised.{parsed}
 use Rattle.descent.proofs.Places.{kind_at, tok_at, from, wrong, OpenRow, calls}
 use Rattle.descent.proofs.Walk.{done, wrong_at, query_w, command_w}
-use Rattle.descent.proofs.Equations.{from_in, kind_end, at-end}
-use Rattle.descent.proofs.Steps.{nt_got, call_in, call_absent, row-stop}
+use Rattle.descent.proofs.Equations.{from_in, kind_end, at_end}
+use Rattle.descent.proofs.Steps.{nt_got, call_in, call_absent, row_stop}
 use Rattle.descent.proofs.ClassFacts.{out, none_of_1, none_of_2, firsts_Command, Command_at_SELECT, Command_at_VALUES, Command_may, firsts_Semi, Semi_at_SEMI, Semi_may}
 use Rattle.descent.proofs.Means.{Told, Good, QueryOK}
 use Rattle.descent.proofs.Common.{told_bind, told_choose, told_done, told_stop, part_no_word}
@@ -56,7 +56,7 @@ module _ (K T : List ℕ) (good : Good K T) where
   parsed_whole : (x : Tree) (n : ℕ) → calls K T outer (any Command) 0 ≡ got x n (from K T n) → kind_at K n ≡ 0 → parsed (tokens K T) ≡ got (add nil x) (length (tokens K T)) []
   unfolding on_got whole
   parsed_whole x n e z =
-      let p : parsed (tokens K T) ≡ got (add nil x) n [] = by_descent ∙ rw (e, at-end K T good.sound n z) in
+      let p : parsed (tokens K T) ≡ got (add nil x) n [] = by_descent ∙ rw (e, at_end K T good.sound n z) in
       let o : Outcome Around under judge G outer (any Command) (tokens K T) (got (add nil x) n []) = (outcome Around under judge G outer (any Command) (FollowOf sql) sql_laws (tokens K T) (got (add nil x) n [])).0 p in
       p ∙ ap (λ m. got (add nil x) m []) o.2
 
@@ -76,10 +76,10 @@ module _ (K T : List ℕ) (good : Good K T) where
       let y : Tree = node p.0 nil (tok_at K T 0) (add p.1 (node semi_row nil (tok_at K T a) nil)) in
       let without : (kind_at K a ≡ SEMI → ⊥) → calls K T outer (any Command) 0 ≡ got x a (from K T a)
       = λ h. p.2 ∙ nt_got K T good.sound F (any Semi?) [] p.1 a (call_absent K T good.sound _ (any Semi?) a (out Semi? (kind_at K a) (ap (mem (kind_at K a)) firsts_Semi ∙ none_of_1 h)) Semi_may)
-      ∙ row-stop K T good.sound F (add p.1 nil) a (ends Command refl p.0 (cap_of (add p.1 nil)) (kind_at K a)) in
+      ∙ row_stop K T good.sound F (add p.1 nil) a (ends Command refl p.0 (cap_of (add p.1 nil)) (kind_at K a)) in
       let with' : kind_at K a ≡ SEMI → calls K T outer (any Command) 0 ≡ got y (a + 1) (from K T (a + 1))
       = λ h. p.2 ∙ nt_got K T good.sound F (any Semi?) [] p.1 a (semi (below p.0 outer) a h)
-      ∙ row-stop K T good.sound F (add p.1 (node semi_row nil (tok_at K T a) nil)) (a + 1) (ends Command refl p.0 (cap_of (add p.1 (node semi_row nil (tok_at K T a) nil))) (kind_at K (a + 1))) in
+      ∙ row_stop K T good.sound F (add p.1 (node semi_row nil (tok_at K T a) nil)) (a + 1) (ends Command refl p.0 (cap_of (add p.1 (node semi_row nil (tok_at K T a) nil))) (kind_at K (a + 1))) in
       told_choose (eqb (kind_at K a) 0) (done a s n rs) _
       (λ z. told_done a s n rs (x, parsed_whole x a (without (λ h. absurd (let k = eqb_eq (kind_at K a) 0 z in omega (arith, h, k)))) (eqb_eq (kind_at K a) 0 z), sym (p.8 nil).records))
       (λ z. told_choose (eqb (kind_at K a) SEMI) _ (wrong_at K T a)
@@ -91,7 +91,7 @@ module _ (K T : List ℕ) (good : Good K T) where
     where
       semi : (c : Around) (a : ℕ) → kind_at K a ≡ SEMI → calls K T c (any Semi?) a ≡ got (node semi_row nil (tok_at K T a) nil) (a + 1) (from K T (a + 1))
       semi c a h = call_in K T good.sound c (any Semi?) a semi_row (ap (enter_of sql (any Semi?)) h ∙ Semi_at_SEMI) (part_no_word c semi_row (tok_at K T a) plain refl)
-          ∙ row-stop K T good.sound (record { c = c; A = any Semi?; r = semi_row; l = nil; t = tok_at K T a }) nil (a + 1) (ends Semi? refl semi_row (cap_of nil) (kind_at K (a + 1)))
+          ∙ row_stop K T good.sound (record { c = c; A = any Semi?; r = semi_row; l = nil; t = tok_at K T a }) nil (a + 1) (ends Semi? refl semi_row (cap_of nil) (kind_at K (a + 1)))
         where
           plain : is_query row_semi ≡ false
           plain = refl

@@ -250,9 +250,9 @@ rows_only : (C k : ℕ) (r : Row) → lookup C k sql.tails ≡ some r → r.code
 unfolding sql lines but_column exprs select_items values_items heads_of tails_of pick both allb
 rows_only C k r l e = eqb_eq C Rows (if_ok (λ C r. eqb r.code row_next_row) (λ C r. eqb C Rows) C k r sql.tails refl l (eqb-true r.code row_next_row e))
 
-rows-go : (C k : ℕ) (r : Row) → lookup C k sql.tails ≡ some r → C ≡ Rows → both (eqb r.code row_next_row) (ends_in RP r.items) ≡ true
+rows_go : (C k : ℕ) (r : Row) → lookup C k sql.tails ≡ some r → C ≡ Rows → both (eqb r.code row_next_row) (ends_in RP r.items) ≡ true
 unfolding sql lines but_column exprs select_items values_items heads_of tails_of pick both allb ends_in is_lit
-rows-go C k r l e = if_ok (λ C r. eqb C Rows) (λ C r. both (eqb r.code row_next_row) (ends_in RP r.items)) C k r sql.tails refl l (eqb-true C Rows e)
+rows_go C k r l e = if_ok (λ C r. eqb C Rows) (λ C r. both (eqb r.code row_next_row) (ends_in RP r.items)) C k r sql.tails refl l (eqb-true C Rows e)
 
 -- the limits' words on a part, known as at d o
 abbrev words_in : Tree → ℕ → ℕ → List ℕ
@@ -272,7 +272,7 @@ held (head e) c d o z = refl
 held (tail (head e) p h) c d o z = refl
 held {A} {t = t} {r = r} (tail {s = s} {q = q} {f = f} (tail {l = m} {s = v} {q = q'} {f = k} a b e) p h) c d o z =
     let rows : A.of ≡ Rows = rows_only A.of t.kind r (cont_found sql A q (cap_of f) t.kind r h).0 c in
-    let goes = rows-go A.of s.kind q (cont_found sql A q' (cap_of k) s.kind q e).0 rows in
+    let goes = rows_go A.of s.kind q (cont_found sql A q' (cap_of k) s.kind q e).0 rows in
     let code : q.code ≡ row_next_row = eqb_eq q.code row_next_row (both_l _ (ends_in RP q.items) goes) in
     let x = part_end RP p (both_r (eqb q.code row_next_row) _ goes) in
     let n : Tree = node q' m v k in

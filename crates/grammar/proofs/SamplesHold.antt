@@ -30,7 +30,7 @@ use Rattle.grammar.specs.Sizes.{TOKENS, WIDTH}
 use Rattle.grammar.specs.Limits.{Around, outer, is_query, below, under, further_flags, members, last_child, children_before, width, width_of, begun, is_kind, judge}
 use Rattle.grammar.specs.Nodes.{count, beside, Rec, rec, records, laid}
 use Rattle.grammar.specs.Reading.{side, choose, is_end, opt, ◌#◌, column, limit_and_offset, group, inside, rules, ruled, value_of, value, values, reading}
-use Rattle.grammar.specs.Meaning.{plain_detail, isOne, unwrapped, meaning}
+use Rattle.grammar.specs.Meaning.{plain_detail, is_one, unwrapped, meaning}
 use Rattle.grammar.specs.Writing.{◌!◌, but_first, within, at, after, joined, each, parted, rows, grouped, join_words, join_of, whens, binary_toks, binary_str, node_str, forms, formed, piece, pieces, writing}
 use Rattle.grammar.specs.Promise.{tokens, Lent, AllFit, Accepted, records_of, Reads, accepted, writing_of, put, kinds_of, texts_of, Writes, written}
 use Rattle.grammar.specs.Samples.{Sample, w, v, times, around, samples}
@@ -90,7 +90,7 @@ unfoldable pub good : Sample → Bool
 good s = both (both (leb (length s.command) TOKENS) (leb (WIDTH * length s.records) PLACES)) (both (fitting s.command) (answers s (parsed s.command)))
 
 pub samples_good : allb good samples ≡ true
-unfolding samples times around good fitting answers found eq_all eq_rec eq_tok allb fits fit_text sql lines but_column exprs select_items values_items heads_of tails_of optional pick both mem lookup asked enter_of cont_of null_of cap_of on_bool on_row on_fed feed step next check sum fault scan_a on_next_a on_end_a fault_of is_query below further_flags members last_child children_before width width_of begun is_kind judge side opt ◌#◌ name_code literal_code column limit_and_offset group inside rules ruled value_of value values reading choose is_end beside count records flags_of words plain_detail isOne unwrapped meaning ◌!◌ but_first at after joined each parted rows grouped join_words join_of whens binary_toks binary_str node_str forms formed piece pieces writing fewest_of endings ending_of strength_of prefix_of
+unfolding samples times around good fitting answers found eq_all eq_rec eq_tok allb fits fit_text sql lines but_column exprs select_items values_items heads_of tails_of optional pick both mem lookup asked enter_of cont_of null_of cap_of on_bool on_row on_fed feed step next check sum fault scan_a on_next_a on_end_a fault_of is_query below further_flags members last_child children_before width width_of begun is_kind judge side opt ◌#◌ name_code literal_code column limit_and_offset group inside rules ruled value_of value values reading choose is_end beside count records flags_of words plain_detail is_one unwrapped meaning ◌!◌ but_first at after joined each parted rows grouped join_words join_of whens binary_toks binary_str node_str forms formed piece pieces writing fewest_of endings ending_of strength_of prefix_of
 samples_good = refl
 
 -- ── what the test says of a sample ──

@@ -30,13 +30,13 @@ plain_detail c d =
     (λ w. pick (eqb c node_query_source) (alias_plain d)
     (λ w. pick (eqb c node_sort) (low way_plain d) (λ w. d)))))
 
-unfoldable pub isOne : Nodes → Bool
-isOne end = false
-isOne (mk c d ks ns) = is_end ns
+unfoldable pub is_one : Nodes → Bool
+is_one end = false
+is_one (mk c d ks ns) = is_end ns
 
 -- a node over its children, unless it is "one-child code 33"
 unfoldable pub unwrapped : ℕ → ℕ → Nodes → Nodes
-unwrapped c d ks = choose (both (eqb c node_parens) (isOne ks)) ks (mk c d ks end)
+unwrapped c d ks = choose (both (eqb c node_parens) (is_one ks)) ks (mk c d ks end)
 
 unfoldable pub meaning : Nodes → Nodes
 meaning end = end

@@ -41,10 +41,10 @@ outside k h = past (0 ∷ strength_table) k (let l = length_strengths in omega (
 
 decided : (b : Bool) (k : ℕ) → leb k KINDS ≡ b → entry_of strength_table k ≡ strength_of k
 decided true k e = inside k (leb→le k KINDS (subst T (sym e) tt))
-decided false k e = outside k (not-le k (λ h. subst T e (le→leb k KINDS h)))
+decided false k e = outside k (not_le k (λ h. subst T e (le→leb k KINDS h)))
   where
-    not-le : (k : ℕ) → (k ≤ KINDS → ⊥) → KINDS < k
-    not-le k h = omega (arith, h)
+    not_le : (k : ℕ) → (k ≤ KINDS → ⊥) → KINDS < k
+    not_le k h = omega (arith, h)
 
 pub entries : (k : ℕ) → entry_of strength_table k ≡ strength_of k
 entries k = decided (leb k KINDS) k refl

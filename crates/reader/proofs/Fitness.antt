@@ -69,8 +69,8 @@ tells false false false false s true false d = refl
 tells false false false c s false t d = refl
 
 -- the tests of `fits` as those of `odd`
-not-zero : (n : ℕ) → leb 1 n ≡ not (eqb n 0)
-not-zero n =
+not_zero : (n : ℕ) → leb 1 n ≡ not (eqb n 0)
+not_zero n =
     by_bool (eqb n 0) (λ e. rw e (let z : n ≡ 0 = eqb-true n 0 e in lt-leb 1 n (omega arith)))
     (λ e. rw e (let z : n ≡ 0 → ⊥ = eqb-false n 0 e in le-leb 1 n (omega arith)))
 
@@ -92,7 +92,7 @@ odd_bits k t = bits (eqb k 0) (ltb 71 k) (eqb k 5) (eqb t 0) (ltb 7 t) (eqb k 40
 fits_is : (k t : ℕ) → fits k t ≡ not (is_odd k t)
 unfolding fits fit_text
 fits_is k t =
-    rw (not-zero k, not_over k 71, not-zero t, not_over t 7, not_over t 3)
+    rw (not_zero k, not_over k 71, not_zero t, not_over t 7, not_over t 3)
     (tells (eqb k 0) (ltb 71 k) (eqb k 5) (eqb t 0) (ltb 7 t) (eqb k 40) (ltb 3 t) (one_word k))
 
 bits_of : (k t : ℕ) → odd_bits k t ≡ bool_byte (is_odd k t)
@@ -109,11 +109,11 @@ abbrev pub FitAt : List ℕ → List ℕ → ℕ → Type 0
 FitAt K T i = fits (get_or K i 0) (get_or T i 0) ≡ true
 
 -- all are fit where each is
-pub all-below : (K T : List ℕ) → ((i : ℕ) → i < length K → FitAt K T i) → FitLists K T
+pub all_below : (K T : List ℕ) → ((i : ℕ) → i < length K → FitAt K T i) → FitLists K T
 unfolding tokens
-all-below [] T h = tt
-all-below (k ∷ K) [] h = tt
-all-below (k ∷ K) (t ∷ T) h = (h 0 (omega arith), all-below K T (λ i l. h (suc i) (omega arith)))
+all_below [] T h = tt
+all_below (k ∷ K) [] h = tt
+all_below (k ∷ K) (t ∷ T) h = (h 0 (omega arith), all_below K T (λ i l. h (suc i) (omega arith)))
 
 -- each is fit where all are
 pub fit_at : (K T : List ℕ) (i : ℕ) → length T ≡ length K → FitLists K T → i < length K → FitAt K T i

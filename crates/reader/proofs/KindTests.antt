@@ -177,11 +177,11 @@ pub record Sign (k : ℕ) : Type 0 where
   pub exists : eqb k 51 ≡ false
   pub some : ltb 0 (prefix_of k) ≡ true
 
-pub sign-is : (k : ℕ) → ((k ≡ 27) ⊎ (k ≡ 36)) ⊎ ((18 ≤ k) × (k ≤ 19)) → Sign k
+pub sign_is : (k : ℕ) → ((k ≡ 27) ⊎ (k ≡ 36)) ⊎ ((18 ≤ k) × (k ≤ 19)) → Sign k
 unfolding prefix_of
-sign-is k (inl (inl e)) = subst Sign (sym e) (record { paren = refl; case = refl; cast = refl; exists = refl; some = refl })
-sign-is k (inl (inr e)) = subst Sign (sym e) (record { paren = refl; case = refl; cast = refl; exists = refl; some = refl })
-sign-is k (inr (l, h)) =
+sign_is k (inl (inl e)) = subst Sign (sym e) (record { paren = refl; case = refl; cast = refl; exists = refl; some = refl })
+sign_is k (inl (inr e)) = subst Sign (sym e) (record { paren = refl; case = refl; cast = refl; exists = refl; some = refl })
+sign_is k (inr (l, h)) =
     record {
       paren = ne_eqb k 12 (λ e. omega (arith, e, l));
       case = ne_eqb k 44 (λ e. omega (arith, e, h));

@@ -9,7 +9,7 @@ use native.Mathlib.Omega.{arith}
 use Rattle.grammar.specs.Sizes.{WIDTH}
 use Rattle.grammar.specs.Nodes.{Rec, rec, numbers}
 use Rattle.descent.proofs.Fill.{fill, Filled}
-use Rattle.descent.proofs.Filling.{numbers_on, length-numbers, set_on, fill_at, length_fill}
+use Rattle.descent.proofs.Filling.{numbers_on, length_numbers, set_on, fill_at, length_fill}
 use Rattle.reader.specs.Turning.{swapped_at, Turned}
 
 -- ── one exchange ──
@@ -68,7 +68,7 @@ turned_ends r q ms = reverse-cons r (ms ++ (q ∷ [])) ∙ ap (λ (t : List Rec)
 on_ends : (hs : List ℕ) (r q : Rec) (ms : List Rec) (cs N E : List ℕ) (a b : ℕ) → N ≡ hs ++ (numbers (r ∷ (ms ++ (q ∷ []))) ++ cs) → length hs ≡ a → b ≡ a + 4 + length ms * WIDTH → E ≡ hs ++ (numbers (reverse (r ∷ (ms ++ (q ∷ [])))) ++ cs) → Turned (exchanged N a b) (a + 4) b E
 on_ends hs (rec c d n s) (rec c' d' n' s') ms cs N E a b e l m g =
     let four : List ℕ = c' ∷ d' ∷ n' ∷ s' ∷ [] in
-    let k : length (numbers ms) ≡ WIDTH * length ms = length-numbers ms in
+    let k : length (numbers ms) ≡ WIDTH * length ms = length_numbers ms in
     let f : length (hs ++ four) ≡ length hs + length four = length-append hs four in
     record {
       fore = hs ++ four;
@@ -140,7 +140,7 @@ thrice T T₁ T₂ T₃ hs cs rs qs m k e f₁ f₂ f₃ t l p q =
     let qs' : List Rec = reverse qs in
     let lr : length rs' ≡ length rs = length-reverse rs in
     let lq : length qs' ≡ length qs = length-reverse qs in
-    let ln : length (numbers rs') ≡ WIDTH * length rs' = length-numbers rs' in
+    let ln : length (numbers rs') ≡ WIDTH * length rs' = length_numbers rs' in
     let lh : length (hs ++ numbers rs') ≡ length hs + length (numbers rs') = length-append hs (numbers rs') in
     let lb : length (rs' ++ qs') ≡ length rs' + length qs' = length-append rs' qs' in
     let t₁ : T₁ ≡ hs ++ (numbers rs' ++ (numbers qs ++ cs)) = turn_one T T₁ hs rs (numbers qs ++ cs) m k f₁ (t ∙ side_by_side hs cs rs qs) l p in

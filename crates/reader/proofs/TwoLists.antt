@@ -69,8 +69,8 @@ likes_few (k ∷ ks) (t ∷ ts) h =
     greater (eqb k 40) t (greatest_like ks ts) (λ e. h 0 (omega arith) (eqb-true k 40 e)) (likes_few ks ts (λ i l e. h (suc i) (omega arith) e))
 
 -- ---- the test of a token's fitness, with no branch
-pub or-none : (a b : ℕ) → bit_or a b ≡ 0 → (a ≡ 0) × (b ≡ 0)
-or-none a b e = omega (arith, or_add_and a b, and_le_l a b, and_le_r a b)
+pub or_none : (a b : ℕ) → bit_or a b ≡ 0 → (a ≡ 0) × (b ≡ 0)
+or_none a b e = omega (arith, or_add_and a b, and_le_l a b, and_le_r a b)
 
 like_odd : (k c t : Bool) → bit_and (bool_byte k) (bit_or (bool_byte c) (bool_byte t)) ≡ 0 → k ≡ true → t ≡ false
 like_odd true true true z e = absurd (omega arith)
@@ -84,4 +84,4 @@ like_odd false false false z e = refl
 
 pub like_fit : (rest kind text : ℕ) (c : Bool) → bit_or rest (bit_and (bool_byte (eqb kind 40)) (bit_or (bool_byte c) (bool_byte (ltb 3 text)))) ≡ 0
     → kind ≡ 40 → text ≤ 3
-like_fit rest kind text c z e = ltb-false 3 text (like_odd (eqb kind 40) c (ltb 3 text) (or-none rest _ z).1 (eq-eqb kind 40 e))
+like_fit rest kind text c z e = ltb-false 3 text (like_odd (eqb kind 40) c (ltb 3 text) (or_none rest _ z).1 (eq-eqb kind 40 e))

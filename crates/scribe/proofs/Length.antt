@@ -16,7 +16,7 @@ use Rattle.words.specs.Fewest.{fewest_of, present, words_of}
 use Rattle.grammar.specs.NodeNames.{node_absent, node_parens}
 use Rattle.grammar.specs.Nodes.{Nodes, end, mk, count, rec, records}
 use Rattle.grammar.specs.Reading.{choose}
-use Rattle.grammar.specs.Meaning.{meaning, isOne, plain_detail}
+use Rattle.grammar.specs.Meaning.{meaning, is_one, plain_detail}
 use Rattle.grammar.specs.Writing.{tok, Piece, Form, piece, formed, forms, ◌!◌, but_first, at, after, within, joined, each, parted, rows, grouped, join_words, join_of, whens, binary_toks}
 use Rattle.canon.proofs.Folds.{P, P_end}
 use Rattle.canon.proofs.Places.{◌also◌}
@@ -214,7 +214,7 @@ formed_brief c (f ∷ fs) h d k = by_bool (eqb c f.of) (λ e. rw e (h.0 d k)) (�
 -- ── nodes ──
 piece_brief : (c d : ℕ) (ks : Nodes) → Most (piece_of c d ks).toks (total (P ks) + 9)
 unfolding piece_of piece choose
-piece_brief c d ks = go (both (eqb c node_parens) (isOne (meaning ks)))
+piece_brief c d ks = go (both (eqb c node_parens) (is_one (meaning ks)))
   where
     go : (b : Bool) → Most (choose b (P ks ! 0) (piece c (plain_detail c d) (P ks))).toks (total (P ks) + 9)
     go true = more (its (P ks ! 0)) (let h = firsts (P ks) in omega (arith, h))

@@ -7,7 +7,7 @@ use lib.Seq.{get_or-append-add}
 use native.Mathlib.Omega.{arith}
 use Rattle.grammar.specs.Sizes.{WIDTH}
 use Rattle.grammar.specs.Nodes.{Nodes, end, mk, count, beside, rec, records, numbers}
-use Rattle.descent.proofs.Filling.{numbers_on, length-numbers}
+use Rattle.descent.proofs.Filling.{numbers_on, length_numbers}
 use Rattle.descent.proofs.Growing.{records_beside}
 use Rattle.scribe.proofs.Standing.{Stands}
 
@@ -56,7 +56,7 @@ module _ {N : List ℕ} {i : ℕ} (ms : Nodes) (c d : ℕ) (ks : Nodes) (s : Sta
         fore = s.fore ++ numbers (records ms);
         aft = c ∷ d ∷ count ks ∷ (length (records ks) + 1) ∷ s.aft;
         parted = laid_out ∙ sym (append_assoc s.fore (numbers (records ms)) (numbers (records ks) ++ (c ∷ d ∷ count ks ∷ (length (records ks) + 1) ∷ s.aft)));
-        upto = let a = length-append s.fore (numbers (records ms)) in let b = length-numbers (records ms) in let e = s.upto in omega (arith, a, b, e, long);
+        upto = let a = length-append s.fore (numbers (records ms)) in let b = length_numbers (records ms) in let e = s.upto in omega (arith, a, b, e, long);
       }
 
   pub stands_before : Stands N (i - (length (records ks) + 1)) ms
@@ -72,8 +72,8 @@ module _ {N : List ℕ} {i : ℕ} (ms : Nodes) (c d : ℕ) (ks : Nodes) (s : Sta
   entry j =
       let a = length-append (s.fore ++ numbers (records ms)) (numbers (records ks)) in
       let b = length-append s.fore (numbers (records ms)) in
-      let x = length-numbers (records ms) in
-      let y = length-numbers (records ks) in
+      let x = length_numbers (records ms) in
+      let y = length_numbers (records ks) in
       let e = s.upto in
       let hs : List ℕ = (s.fore ++ numbers (records ms)) ++ numbers (records ks) in
       let at : WIDTH * (i - 1) + j ≡ length hs + j = omega (arith, a, b, x, y, e, long) in
@@ -88,7 +88,7 @@ module _ {N : List ℕ} {i : ℕ} (ms : Nodes) (c d : ℕ) (ks : Nodes) (s : Sta
       let p = ap length s.parted in
       let q = length-append s.fore (numbers (records (beside ms (mk c d ks end))) ++ s.aft) in
       let r = length-append (numbers (records (beside ms (mk c d ks end)))) s.aft in
-      let x = length-numbers (records (beside ms (mk c d ks end))) in
+      let x = length_numbers (records (beside ms (mk c d ks end))) in
       record {
         there = omega (arith, e, long);
         inside = omega (arith, e, p, q, r, x);

@@ -443,10 +443,10 @@ parens_shape w e = as_shape w (at_code node_parens w.node e).1
 pub parens_some : {C : Class} {N : List ℕ} {i : ℕ} (w : Whole C N i) → w.code ≡ node_parens → 0 < count w.kids
 parens_some w e = some_counted (parens_shape w e)
 
-one-kid : {C : Class} {ks : Nodes} → Shaped (some_of C) ks → count ks ≡ 1 → Shaped (C ▸ fin) ks
+one_kid : {C : Class} {ks : Nodes} → Shaped (some_of C) ks → count ks ≡ 1 → Shaped (C ▸ fin) ks
 unfolding count
-one-kid (shaped_next n s shaped_none) e = shaped_next n s shaped_end
-one-kid (shaped_next n s (shaped_more (shaped_next n' s' r))) e = absurd (omega (arith, e))
+one_kid (shaped_next n s shaped_none) e = shaped_next n s shaped_end
+one_kid (shaped_next n s (shaped_more (shaped_next n' s' r))) e = absurd (omega (arith, e))
 
 one_piece : {C : Class} {ks : Nodes} {p : Piece} (d : ℕ) → Shaped (C ▸ fin) ks → P ks ≡ p ∷ [] → piece_of node_parens d ks ≡ p
 unfolding ◌!◌
@@ -455,8 +455,8 @@ one_piece d (shaped_next {c = a} {d = b} {ks = x} n s shaped_end) e = unwrapped_
 -- "each one-child code 33 replaced by its child"
 pub parens_one : {C : Class} {N : List ℕ} {i : ℕ} (w : Whole C N i) → w.code ≡ node_parens → count w.kids ≡ 1 → (k : Whole an_expr N (i - 1)) × (piece_at w ≡ piece_at k)
 parens_one w e one =
-    let k = kids1 (must an_expr) (one-kid (parens_shape w e) one) (kids_stand w) in
-    (k.first, ap (λ z. piece_of z w.detail w.kids) e ∙ one_piece w.detail (one-kid (parens_shape w e) one) k.written)
+    let k = kids1 (must an_expr) (one_kid (parens_shape w e) one) (kids_stand w) in
+    (k.first, ap (λ z. piece_of z w.detail w.kids) e ∙ one_piece w.detail (one_kid (parens_shape w e) one) k.written)
 
 more_pieces : {C : Class} {ks : Nodes} (d : ℕ) → Shaped (some_of C) ks → 1 < count ks → piece_of node_parens d ks ≡ piece node_parens d (P ks)
 unfolding count

@@ -1,5 +1,5 @@
 -- The turns of the writer's loops: what is yet to be written before a turn and after it, and all of it written at the end. Along first operands
--- (along_turn, bare_goes, bare_ends), parted lists (parted_more, ..), VALUES' rows (rows_more, ..), FROM's parts (joined-more, ..), CASE (case_more, ..).
+-- (along_turn, bare_goes, bare_ends), parted lists (parted_more, ..), VALUES' rows (rows_more, ..), FROM's parts (joined_more, ..), CASE (case_more, ..).
 -- Assumes nothing.
 use mathlib.Core.Bool.{false}
 use mathlib.Core.List.{List, [], ◌∷◌, ◌++◌, append_assoc, append-nil}
@@ -205,9 +205,9 @@ module _ {N : List ℕ} {lane j n r to : ℕ} {A A' : List ℕ} {ts : List Tok} 
       go (only_first k) = inl k.first
       go (last_after k) = inr k.last
 
-  pub joined-more : {A₂ : List ℕ} {r₂ j' n' : ℕ} → 0 < n → ((p : Part N j) → Puts lane A' A₂ r₂ r (part_toks N j p)) → j' ≡ before_of N j → n' ≡ n - 1 → Yet joined (FromRest N) lane A A₂ j' n' r₂ to ts
+  pub joined_more : {A₂ : List ℕ} {r₂ j' n' : ℕ} → 0 < n → ((p : Part N j) → Puts lane A' A₂ r₂ r (part_toks N j p)) → j' ≡ before_of N j → n' ≡ n - 1 → Yet joined (FromRest N) lane A A₂ j' n' r₂ to ts
   unfolding joined count
-  joined-more {A₂} {r₂} {j'} {n'} h f e q = go (last_part h)
+  joined_more {A₂} {r₂} {j'} {n'} h f e q = go (last_part h)
     where
       go : AfterFirst a_source a_join N j y.rest → Yet joined (FromRest N) lane A A₂ j' n' r₂ to ts
       go (only_first k) = turn y end (inl refl) (let a = k.counted in let c = y.counted in omega (arith, a, c, q)) (f (inl k.first)) (joined_first k ∙ ap (λ z. joined z ++ (piece_at k.first).toks) (sym P_end))

@@ -109,7 +109,7 @@ module _ (K T : List ℕ) (bound : (n : ℕ) → get_or K n 0 < 72) where
     ops_gives at c s left pre p ls l len = gives_choose (eqb (strength_of (κ K T at)) 0) _ _ (λ z. here)
         (λ a. gives_choose (ltb (strength_of (κ K T at)) s) _ _ (λ z. here)
         (λ b. gives_choose (ltb left (strength_of (κ K T at))) _ _ (λ z. here)
-        (λ d. let q : 0 < strength_of (κ K T at) = not-zero (strength_of (κ K T at)) (eqb-false (strength_of (κ K T at)) 0 a) in
+        (λ d. let q : 0 < strength_of (κ K T at) = not_zero (strength_of (κ K T at)) (eqb-false (strength_of (κ K T at)) 0 a) in
         gives_bind (op_w K T f at (deeper c) (strength_of (κ K T at) + 1) pre) _ (all.op at (deeper c) (strength_of (κ K T at) + 1) pre (omega arith) q ls l len)
         (λ e x n rs r. gives_onto rs (ops_w K T f e c s (min (strength_of (κ K T at)) x) (pre + length rs)) (all.ops e c s (min (strength_of (κ K T at)) x) (pre + length rs) (omega (arith, q, r.0)) (ls ++ rs) r.1 (omega (arith, length-append ls rs, len)))
         (λ g y m qs t. (t.0, read_is t.1 refl (sym (append_assoc ls rs qs))))))))
@@ -117,8 +117,8 @@ module _ (K T : List ℕ) (bound : (n : ℕ) → get_or K n 0 < 72) where
         here : Gives (done at left 0 []) (λ a said n rs. (0 < said) × One an_expr (ls ++ rs))
         here = gives_done at left 0 [] (p, read_is l refl (append-nil ls))
 
-        not-zero : (k : ℕ) → (k ≡ 0 → ⊥) → 0 < k
-        not-zero k h = omega (arith, h)
+        not_zero : (k : ℕ) → (k ≡ 0 → ⊥) → 0 < k
+        not_zero k h = omega (arith, h)
 
 -- of strength 0, which is name DOT STAR, nothing goes on
 pub ops_star : (K T : List ℕ) (f at : ℕ) (c : Around) (s pre : ℕ) → Gives (ops_w K T f at c s 0 pre) (λ a said n rs. (said ≡ 0) × (rs ≡ []))

@@ -19,10 +19,10 @@ module _ (G : Gram) where
     unfolding step feed on_fed on_bool
     step_lit c is e = rw (eqb-true c u.kind e)
 
-    pub step-absent : (B : Nt) (is : List Item) → G.enter B u.kind ≡ none → G.nullable B ≡ true
+    pub step_absent : (B : Nt) (is : List Item) → G.enter B u.kind ≡ none → G.nullable B ≡ true
         → step G f (fr A r left t (nt B ∷ is) pk ∷ fs) u ≡ step G (add f nil) (fr A r left t is pk ∷ fs) u
     unfolding step feed on_fed on_bool on_row
-    step-absent B is e n = rw (e, n)
+    step_absent B is e n = rw (e, n)
 
     pub step_enter : (B : Nt) (is : List Item) (q : Row) → G.enter B u.kind ≡ some q
         → step G f (fr A r left t (nt B ∷ is) pk ∷ fs) u ≡ go nil (fr B q nil u q.items f ∷ fr A r left t is pk ∷ fs)
@@ -78,7 +78,7 @@ module _ (G : Gram) where
       c_part {full} {rest} (absent {f = f} {B = B} p e) A r left t pk fs u us h n =
           ap (λ z. run G S (go nil (fr A r left t full pk ∷ fs)) (z ++ (u ∷ us))) (append-nil (toks f))
           ∙ c_part p A r left t pk fs u us h (inr (e, n))
-          ∙ ap (λ z. run G S z us) (step-absent A r left t pk fs f u B rest
+          ∙ ap (λ z. run G S z us) (step_absent A r left t pk fs f u B rest
           (laws.leaves B u.kind e (h B rest 99 u.kind (part_suffix G p) n)) e)
       c_part {full} {rest} (child {f = f} {B = B} {q = q} {l = l} {s = s} {g = g} p o pg) A r left t pk fs u us h n =
           let w = opens_first o (toks g ++ (u ∷ us)) in

@@ -118,16 +118,16 @@ module _ (G : Gram) (Ctx : Type 0) (under : Row → Tree → Tok → Tree → Ct
       (λ e. rw e)
 
   -- frames on a frame F on others gs: what is known is the same, if gs and the children that F stands after are summed up first
-  sum-append : (c : Ctx) (k : Tree) (fs : List Frame) (A : Nt) (r : Row) (l : Tree) (t : Tok) (is : List Item) (f : Tree) (gs : List Frame)
+  sum_append : (c : Ctx) (k : Tree) (fs : List Frame) (A : Nt) (r : Row) (l : Tree) (t : Tok) (is : List Item) (f : Tree) (gs : List Frame)
       → sum c k (fs ++ (fr A r l t is f ∷ gs)) ≡ sum (sum c f gs) k (fs ++ (fr A r l t is nil ∷ []))
   unfolding sum
-  sum-append c k [] A r l t is f gs = refl
-  sum-append c k (fr A' r' l' t' is' pk ∷ fs) A r l t is f gs = ap (under r' l' t' k) (sum-append c pk fs A r l t is f gs)
+  sum_append c k [] A r l t is f gs = refl
+  sum_append c k (fr A' r' l' t' is' pk ∷ fs) A r l t is f gs = ap (under r' l' t' k) (sum_append c pk fs A r l t is f gs)
 
   fault_append : (c : Ctx) (k : Tree) (F : Frame) (fs : List Frame) (A : Nt) (r : Row) (l : Tree) (t : Tok) (is : List Item) (f : Tree) (gs : List Frame)
       → fault c k F (fs ++ (fr A r l t is f ∷ gs)) ≡ fault (sum c f gs) k F (fs ++ (fr A r l t is nil ∷ []))
   unfolding fault
-  fault_append c k (fr A' r' l' t' is' pk) fs A r l t is f gs = ap (λ z. judge z r' l' t' k) (sum-append c pk fs A r l t is f gs)
+  fault_append c k (fr A' r' l' t' is' pk) fs A r l t is f gs = ap (λ z. judge z r' l' t' k) (sum_append c pk fs A r l t is f gs)
 
   -- a frame on others, and what stands on it, is read to its end; then the others, with its tree after the children that it stands after
   pub nested : (us : List Tok) (c : Ctx) (n : ℕ) (k : Tree) (fs : List Frame) (A : Nt) (r : Row) (l : Tree) (t : Tok) (is : List Item) (f : Tree) (gs : List Frame)

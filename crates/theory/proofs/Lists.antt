@@ -97,12 +97,12 @@ module _ (G : Gram) (Ctx : Type 0) (under : Row → Tree → Tok → Tree → Ct
     loop_stop (leaf t) b h n u us e = absurd b
     loop_stop (node q l t k) b h n u us e = rest_end G Ctx under judge c L q l t k n u us ∙ rw (ls q (cap_of k) u.kind ∙ e)
 
-    pub loop-end : (x : Tree) → Begun x → G.nullable L ≡ true → (n : ℕ) → G.enter L G.eof ≡ none → more c L x n [] ≡ got x n []
+    pub loop_end : (x : Tree) → Begun x → G.nullable L ≡ true → (n : ℕ) → G.enter L G.eof ≡ none → more c L x n [] ≡ got x n []
     unfolding more call on_row on_bool
-    loop-end nil b h n e = rw (e, h)
-    loop-end (add f y) b h n e = absurd b
-    loop-end (leaf t) b h n e = absurd b
-    loop-end (node q l t k) b h n e = rest_end_end G Ctx under judge c L q l t k n ∙ rw (ls q (cap_of k) G.eof ∙ e)
+    loop_end nil b h n e = rw (e, h)
+    loop_end (add f y) b h n e = absurd b
+    loop_end (leaf t) b h n e = absurd b
+    loop_end (node q l t k) b h n e = rest_end_end G Ctx under judge c L q l t k n ∙ rw (ls q (cap_of k) G.eof ∙ e)
 
     pub loop_item : (I : Nt) (r : Row) → r.items ≡ nt I ∷ [] → (x : Tree) (n : ℕ) (u : Tok) (us : List Tok)
         → rest G Ctx under judge c L r x u r.items nil n us

@@ -15,7 +15,7 @@ use Rattle.theory.specs.Outcome.{Ans, got, refused, Starts, Clean, FirstFault, O
 use Rattle.theory.proofs.Machine.{idle, next, run}
 use Rattle.theory.proofs.Laws.{Laws}
 use Rattle.theory.proofs.Sound.{sound_run}
-use Rattle.theory.proofs.Right.{tree, Live, run-append, same_split, parse, read_derived, derived_read, begins, cannot_follow, unfinished_begins, begins_live, cannot_follow_refused, begins_unfinished}
+use Rattle.theory.proofs.Right.{tree, Live, run_append, same_split, parse, read_derived, derived_read, begins, cannot_follow, unfinished_begins, begins_live, cannot_follow_refused, begins_unfinished}
 use Rattle.theory.proofs.Scan.{fault_of, parse_a, told, descent, faults, SaysA, judged_says, no_fault, fault_at, zero_past, no_fault_cannot, no_fault_unfinished}
 use Rattle.theory.proofs.Faults.{faults_append, length_faults, faults_read, faults_begun}
 
@@ -85,11 +85,11 @@ module _ (Ctx : Type 0) (under : Row → Tree → Tok → Tree → Ctx → Ctx) 
     -- ── the theorem ──
     live_begins : (us : List Tok) (u : Tok) → Live (next G S (run G S idle us) u) → Begins G S (us ++ (u ∷ []))
     unfolding run
-    live_begins us u l = begins G S Follow laws (us ++ (u ∷ [])) (run G S idle (us ++ (u ∷ []))) (rw (run-append G S idle us (u ∷ [])) l) (sound_run G S [] idle (us ++ (u ∷ [])) refl)
+    live_begins us u l = begins G S Follow laws (us ++ (u ∷ [])) (run G S idle (us ++ (u ∷ []))) (rw (run_append G S idle us (u ∷ [])) l) (sound_run G S [] idle (us ++ (u ∷ [])) refl)
 
     begins_next : (us : List Tok) (u : Tok) → Begins G S (us ++ (u ∷ [])) → Live (next G S (run G S idle us) u)
     unfolding run
-    begins_next us u b = rw (run-append G S idle us (u ∷ [])) at (begins_live G S Follow laws (us ++ (u ∷ [])) b)
+    begins_next us u b = rw (run_append G S idle us (u ∷ [])) at (begins_live G S Follow laws (us ++ (u ∷ [])) b)
 
     holds : (ts : List Tok) (a : Ans) → SaysA G Ctx under judge c S 0 idle ts a → Outcome Ctx under judge G c S ts a
     holds ts (got k n us) s =

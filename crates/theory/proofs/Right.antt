@@ -47,10 +47,10 @@ module _ (G : Gram) (S : Nt) where
   scan p r [] = on_end (next G S r (End G))
   scan p r (u ∷ us) = on_next (next G S r u) (λ r'. scan (p + 1) r' us) (cannot p)
 
-  pub run-append : (r : Res) (us vs : List Tok) → run G S r (us ++ vs) ≡ run G S (run G S r us) vs
+  pub run_append : (r : Res) (us vs : List Tok) → run G S r (us ++ vs) ≡ run G S (run G S r us) vs
   unfolding run
-  run-append r [] vs = refl
-  run-append r (u ∷ us) vs = run-append (next G S r u) us vs
+  run_append r [] vs = refl
+  run_append r (u ∷ us) vs = run_append (next G S r u) us vs
 
   -- once refused, always refused
   run_stop : (us : List Tok) → run G S stop us ≡ stop
@@ -134,7 +134,7 @@ module _ (G : Gram) (S : Nt) where
   -- a run that dies at u comes to nothing
   run_dies : (r : Res) (us : List Tok) (u : Tok) (vs : List Tok) → Dead (next G S (run G S r us) u) → run G S r (us ++ (u ∷ vs) ++ (End G ∷ [])) ≡ stop
   unfolding run
-  run_dies r us u vs d = ap (run G S r) (append_assoc us (u ∷ vs) (End G ∷ [])) ∙ run-append r us (u ∷ (vs ++ (End G ∷ []))) ∙ dies vs
+  run_dies r us u vs d = ap (run G S r) (append_assoc us (u ∷ vs) (End G ∷ [])) ∙ run_append r us (u ∷ (vs ++ (End G ∷ []))) ∙ dies vs
     where
       dies : (vs : List Tok) → run G S (next G S (run G S r us) u) (vs ++ (End G ∷ [])) ≡ stop
       dies [] = run_dead (next G S (run G S r us) u) d (End G) []
@@ -144,7 +144,7 @@ module _ (G : Gram) (S : Nt) where
   unfolding run
   says_done p r ts (tree k') k e s = cc
   says_done p r ts (cannot m) k e s = absurd (done_stop _ k e (rw s.3 (run_dies r s.0 s.1 s.2 s.6)))
-  says_done p r ts unfinished k e s = absurd (s.1 k (sym (run-append r ts (End G ∷ [])) ∙ e))
+  says_done p r ts unfinished k e s = absurd (s.1 k (sym (run_append r ts (End G ∷ [])) ∙ e))
 
   -- a refusal rests on the tokens up to its place
   scan_at : (p : ℕ) (r : Res) (us : List Tok) (u : Tok) (vs : List Tok) → Live (run G S r us) → Dead (next G S (run G S r us) u)
@@ -159,14 +159,14 @@ init [] = []
 init (x ∷ []) = []
 init (x ∷ (y ∷ l)) = x ∷ init (y ∷ l)
 
-init-snoc : {A : Type 0} (a : List A) (x : A) → init (a ++ (x ∷ [])) ≡ a
+init_snoc : {A : Type 0} (a : List A) (x : A) → init (a ++ (x ∷ [])) ≡ a
 unfolding init
-init-snoc [] x = refl
-init-snoc (y ∷ []) x = refl
-init-snoc (y ∷ (z ∷ a)) x = ap (λ l. y ∷ l) (init-snoc (z ∷ a) x)
+init_snoc [] x = refl
+init_snoc (y ∷ []) x = refl
+init_snoc (y ∷ (z ∷ a)) x = ap (λ l. y ∷ l) (init_snoc (z ∷ a) x)
 
 pub snoc_inj : {A : Type 0} (a b : List A) (x y : A) → a ++ (x ∷ []) ≡ b ++ (y ∷ []) → a ≡ b
-snoc_inj a b x y e = sym (init-snoc a x) ∙ ap init e ∙ init-snoc b y
+snoc_inj a b x y e = sym (init_snoc a x) ∙ ap init e ∙ init_snoc b y
 
 pub same_split : {A : Type 0} (a : List A) (x : A) (b c : List A) (y : A) (d : List A) → a ++ (x ∷ b) ≡ c ++ (y ∷ d) → length a ≡ length c → (a ≡ c) × (x ≡ y)
 same_split [] x b [] y d e h = (refl, cc)
@@ -227,13 +227,13 @@ module _ (G : Gram) (S : Nt) (Follow : Nt → ℕ → ℕ → Type 0) (laws : La
       which : Live (run G S idle us) ⊎ Dead (run G S idle us) → Live (run G S idle us)
       which (inl l) = l
       which (inr d) = absurd (done_stop G S (run G S idle (toks b.1 ++ (End G ∷ []))) (add nil b.1) (complete G S Follow laws b.3)
-          (ap (λ z. run G S idle (z ++ (End G ∷ []))) b.4 ∙ ap (run G S idle) (append_assoc us b.2 (End G ∷ [])) ∙ run-append G S idle us (b.2 ++ (End G ∷ [])) ∙ dies d b.2))
+          (ap (λ z. run G S idle (z ++ (End G ∷ []))) b.4 ∙ ap (run G S idle) (append_assoc us b.2 (End G ∷ [])) ∙ run_append G S idle us (b.2 ++ (End G ∷ [])) ∙ dies d b.2))
 
   -- the other way round: where the tokens begin a command and with one more they begin none, that token is refused
   pub cannot_follow_refused : (us : List Tok) (u : Tok) (vs : List Tok) → Begins G S us → ¬ Begins G S (us ++ (u ∷ [])) → parse G S (us ++ (u ∷ vs)) ≡ cannot (length us)
   unfolding run
   cannot_follow_refused us u vs b n = scan_at G S 0 idle us u vs (begins_live us b)
-      (λ l. n (begins (us ++ (u ∷ [])) (run G S idle (us ++ (u ∷ []))) (rw (run-append G S idle us (u ∷ [])) l) (sound_run G S [] idle (us ++ (u ∷ [])) refl)))
+      (λ l. n (begins (us ++ (u ∷ [])) (run G S idle (us ++ (u ∷ []))) (rw (run_append G S idle us (u ∷ [])) l) (sound_run G S [] idle (us ++ (u ∷ [])) refl)))
       ∙ ap cannot (omega arith)
 
   -- and tokens that begin a command, and are none, are not finished

@@ -29,8 +29,8 @@ field_past {io} {i} {f} t e h =
       is = λ z. sym (ap (λ l. get_or l (WIDTH * (i - 1) + f) 0) (sym e) ∙ past t (WIDTH * (i - 1) + f) (omega (arith, h)));
     }
 
-pub field-there : {io : Lists} {i f : ℕ} (t : List ℕ) (at : ℕ) → t ≡ nodes_of io → (i ≡ 0 → ⊥) → at ≡ (i - 1) * 4 + f → Field f io i (get_or t at 0)
-field-there {i = i} {f = f} t at e h p = record { some = λ z. omega (arith, h); is = λ z. ap₂ (λ l n. get_or l n 0) e (p ∙ place) }
+pub field_there : {io : Lists} {i f : ℕ} (t : List ℕ) (at : ℕ) → t ≡ nodes_of io → (i ≡ 0 → ⊥) → at ≡ (i - 1) * 4 + f → Field f io i (get_or t at 0)
+field_there {i = i} {f = f} t at e h p = record { some = λ z. omega (arith, h); is = λ z. ap₂ (λ l n. get_or l n 0) e (p ∙ place) }
   where
     place : (i - 1) * 4 + f ≡ WIDTH * (i - 1) + f
     place = omega arith

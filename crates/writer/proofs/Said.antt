@@ -207,9 +207,9 @@ unfolding choose
 nulls_none {s} a b = rw (ne_eqb s 1 a, ne_eqb s 2 b) refl
 
 -- ── joins ──
-pub join-none : {w : ℕ} → w ≡ 0 → join_words (present w) ≡ []
+pub join_none : {w : ℕ} → w ≡ 0 → join_words (present w) ≡ []
 unfolding join_words
-join-none e = rw e refl
+join_none e = rw e refl
 
 pub join_some : {w : ℕ} → (w ≡ 0 → ⊥) → join_words (present w) ≡ toktext JOIN_KW w ∷ []
 unfolding join_words cond

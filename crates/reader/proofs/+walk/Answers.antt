@@ -5,7 +5,7 @@ use Prim.Native.Nat.{ℕ, ◌+◌, ◌<◌, ◌≤◌, ◌*◌, ◌-◌}
 use Rattle.reader.proofs.Laying.{took, left, misfit, next, at_once, is, isn't, goes, halts, topped, by_kind, laid, capped, halted, query_opened, queries_of_lem, by_walk, two_ways, ◌also◌, behind, loop_start, for_any, laid_joined, so, strength_of, differs, filled_as, no_left, no_right, closed, at_second, laid_as}
 use Rattle.descent.proofs.Walk.{expr_w, cols_w, leaf_w, operand_w, joins_w, deeper, dotted_w, list_w, ops_w, not_b, rows_w, terms_w, when_w}
 use Rattle.reader.specs.Laying.{one, is_bare, absences, Packed, Onward, Laid, Later, begins_join, literal_text}
-use Rattle.reader.proofs.KindTests.{between_in, between_out, bare_either, bare_neither, distinct_walk, deep_walk, indexed_heads_none, heads_call_lem, Sign, sign-is, no_sign, ops_walk, ops_goes, no_parts, select_walk, prefix_walk, no_tail}
+use Rattle.reader.proofs.KindTests.{between_in, between_out, bare_either, bare_neither, distinct_walk, deep_walk, indexed_heads_none, heads_call_lem, Sign, sign_is, no_sign, ops_walk, ops_goes, no_parts, select_walk, prefix_walk, no_tail}
 use Rattle.theory.specs.Table.{both}
 use mathlib.Core.Path.{ap, refl, sym, ◌∙◌, ◌≡◌, ap₂}
 use mathlib.Core.Logic.{⊎_elim, inl, inr}
@@ -938,7 +938,7 @@ operand-returns-in_default t c = (refused c.wrong.ensures.0 (omega arith), λ s.
 
 pub operand-returns-in-36 : goal.operand-returns-in-36
 unfolding expr_w
-operand-returns-in-36 t c = (further c.sign.ensures.0 (omega arith), let q : Sign c.args.kind = sign-is c.args.kind (elim c.in-36-1.branch [ operand-in-27-1 w ↦ inl w.in-27-1.keys5 | operand-in_default+else-kind-lt18+then-kind-lt20 w ↦ inr (omega arith, omega arith) ]) in λ s. record { does = λ a p. next ((c.sign.ensures.1 s).does a p) (λ f h. left _ _ _ (by_kind (λ k. eqb k 12) c.requires.2 q.paren) (left _ _ _ (by_kind (λ k. eqb k 44) c.requires.2 q.case) (left _ _ _ (by_kind (λ k. eqb k 49) c.requires.2 q.cast) (left _ _ _ (by_kind (λ k. eqb k 51) c.requires.2 q.exists) (took _ _ _ (by_kind (λ k. ltb 0 (prefix_of k)) c.requires.2 q.some) h))))) })
+operand-returns-in-36 t c = (further c.sign.ensures.0 (omega arith), let q : Sign c.args.kind = sign_is c.args.kind (elim c.in-36-1.branch [ operand-in-27-1 w ↦ inl w.in-27-1.keys5 | operand-in_default+else-kind-lt18+then-kind-lt20 w ↦ inr (omega arith, omega arith) ]) in λ s. record { does = λ a p. next ((c.sign.ensures.1 s).does a p) (λ f h. left _ _ _ (by_kind (λ k. eqb k 12) c.requires.2 q.paren) (left _ _ _ (by_kind (λ k. eqb k 44) c.requires.2 q.case) (left _ _ _ (by_kind (λ k. eqb k 49) c.requires.2 q.cast) (left _ _ _ (by_kind (λ k. eqb k 51) c.requires.2 q.exists) (took _ _ _ (by_kind (λ k. ltb 0 (prefix_of k)) c.requires.2 q.some) h))))) })
 
 pub ops-loop-kind-init : goal.ops-loop-kind-init
 unfolding expr_w

@@ -6,7 +6,7 @@ use Prim.Native.Nat.{ℕ, ◌+◌, ◌<◌, ◌≤◌, ◌*◌, ◌-◌}
 use Rattle.reader.proofs.Laying.{took, left, misfit, next, at_once, is, isn't, goes, halts, topped, by_kind, laid, capped, halted, query_opened, queries_of_lem, by_walk, two_ways, ◌also◌, behind, loop_start, for_any, laid_joined, so, strength_of, differs, filled_as, no_left, no_right, closed, at_second, laid_as}
 use Rattle.descent.proofs.Walk.{expr_w, cols_w, leaf_w, operand_w, joins_w, deeper, dotted_w, list_w, ops_w, not_b, rows_w, terms_w, when_w}
 use Rattle.reader.specs.Laying.{one, is_bare, absences, Packed, Onward, Laid, Later, begins_join, literal_text}
-use Rattle.reader.proofs.KindTests.{between_in, between_out, bare_either, bare_neither, distinct_walk, deep_walk, indexed_heads_none, heads_call_lem, Sign, sign-is, no_sign, ops_walk, ops_goes, no_parts, select_walk, prefix_walk, no_tail}
+use Rattle.reader.proofs.KindTests.{between_in, between_out, bare_either, bare_neither, distinct_walk, deep_walk, indexed_heads_none, heads_call_lem, Sign, sign_is, no_sign, ops_walk, ops_goes, no_parts, select_walk, prefix_walk, no_tail}
 use Rattle.theory.specs.Table.{both}
 use mathlib.Core.Path.{ap, refl, sym, ◌∙◌, ◌≡◌, ap₂}
 use mathlib.Core.Logic.{⊎_elim, inl, inr}

@@ -1,6 +1,6 @@
 use Prim.Native.Nat.{◌-◌, ◌<◌, ◌≤◌, ℕ}
-use Rattle.reader.proofs.TwoLists.{likes_few, or-none}
-use Rattle.reader.proofs.Fitness.{FitAt, all-below, fit_at, none_or}
+use Rattle.reader.proofs.TwoLists.{likes_few, or_none}
+use Rattle.reader.proofs.Fitness.{FitAt, all_below, fit_at, none_or}
 use Rattle.reader.specs.Laying.{FitLists}
 use borrow.Author.Count.{below_more}
 use borrow.Author.Rules.{rules}
@@ -35,14 +35,14 @@ pub loop-i-preserved : goal.loop-i-preserved
 loop-i-preserved c = (
   omega arith,
   c.loop-i.invariant.1,
-  λ z. below_more _ _ (c.loop-i.invariant.2 (or-none c.loop-i.bad c.odd-bad.result z).0) (c.odd-bad.ensures.0 (or-none c.loop-i.bad c.odd-bad.result z).1),
-  λ z. below_more _ _ (c.loop-i.invariant.3 (or-none c.loop-i.bad c.odd-bad.result z).0) (c.odd-bad.ensures.2 (or-none c.loop-i.bad c.odd-bad.result z).1),
+  λ z. below_more _ _ (c.loop-i.invariant.2 (or_none c.loop-i.bad c.odd-bad.result z).0) (c.odd-bad.ensures.0 (or_none c.loop-i.bad c.odd-bad.result z).1),
+  λ z. below_more _ _ (c.loop-i.invariant.3 (or_none c.loop-i.bad c.odd-bad.result z).0) (c.odd-bad.ensures.2 (or_none c.loop-i.bad c.odd-bad.result z).1),
   λ a. none_or c.loop-i.bad c.odd-bad.result (c.loop-i.invariant.4 a) (c.odd-bad.ensures.1 (fit_at c.args.kinds.now c.args.texts.now c.loop-i.i (omega arith) a (omega arith))),
 )
 
 pub returns : goal.returns
 returns c = (
   λ e. likes_few c.args.kinds.now c.args.texts.now (λ i l. c.loop-i.invariant.2 (eqb-true _ _ e) i (omega (arith, c.loop-i.invariant.0, c.loop-i.invariant.1, l))),
-  λ e. all-below c.args.kinds.now c.args.texts.now (λ i l. c.loop-i.invariant.3 (eqb-true _ _ e) i (omega (arith, c.loop-i.invariant.0, c.loop-i.invariant.1, l))),
+  λ e. all_below c.args.kinds.now c.args.texts.now (λ i l. c.loop-i.invariant.3 (eqb-true _ _ e) i (omega (arith, c.loop-i.invariant.0, c.loop-i.invariant.1, l))),
   λ a. eq-eqb _ _ (c.loop-i.invariant.4 a),
 )

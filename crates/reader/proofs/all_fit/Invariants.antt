@@ -1,6 +1,6 @@
 use Prim.Native.Nat.{◌-◌, ◌<◌, ◌≤◌, ℕ}
-use Rattle.reader.proofs.TwoLists.{likes_few, or-none}
-use Rattle.reader.proofs.Fitness.{FitAt, all-below, fit_at, none_or}
+use Rattle.reader.proofs.TwoLists.{likes_few, or_none}
+use Rattle.reader.proofs.Fitness.{FitAt, all_below, fit_at, none_or}
 use Rattle.reader.specs.Laying.{FitLists}
 use borrow.Author.Count.{below_more}
 use borrow.Author.Rules.{rules}

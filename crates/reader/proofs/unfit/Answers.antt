@@ -1,5 +1,5 @@
 use Prim.Native.Nat.{◌-◌, ◌<◌, ◌≤◌, ℕ}
-use Rattle.reader.proofs.Fitness.{FitAt, all-below, first_unfit}
+use Rattle.reader.proofs.Fitness.{FitAt, all_below, first_unfit}
 use borrow.Author.Count.{below_more, below_none}
 use borrow.Author.Tests.{not-false, not-true}
 use mathlib.Core.Path.{sym, ◌∙◌}
@@ -36,4 +36,4 @@ pub loop-i-preserved : goal.loop-i-preserved
 loop-i-preserved c = (omega arith, below_more (FitAt c.args.kinds.now c.args.texts.now) c.loop-i.i c.loop-i.invariant.1 (sym c.fit.ensures ∙ c.if-not-fit.false))
 
 pub returns : goal.returns
-returns c = (omega arith, λ n. absurd (n (all-below c.args.kinds.now c.args.texts.now (λ j l. c.loop-i.invariant.1 j (omega arith)))))
+returns c = (omega arith, λ n. absurd (n (all_below c.args.kinds.now c.args.texts.now (λ j l. c.loop-i.invariant.1 j (omega arith)))))

@@ -1,5 +1,5 @@
 use Prim.Native.Nat.{◌-◌, ◌<◌, ◌≤◌, ℕ}
-use Rattle.reader.proofs.Fitness.{FitAt, all-below, first_unfit}
+use Rattle.reader.proofs.Fitness.{FitAt, all_below, first_unfit}
 use borrow.Author.Count.{below_more, below_none}
 use borrow.Author.Tests.{not-false, not-true}
 use mathlib.Core.Path.{sym, ◌∙◌}

@@ -1,0 +1,145 @@
+use Rattle.writer.specs.Pages.{rank}
+use Rattle.writer.proofs.Leaves.{detail_of, code_of, backs_most, code_at_lem, children_at_lem, before_most}
+use Rattle.writer.proofs.Said.{spell_at, expr_term, is_absent, is_there, part_join, more_most}
+use Rattle.writer.specs.Pages.{nodes_of, lane_in}
+use Rattle.writer.proofs.Moves.{any_terms, args_star, args_list, coded, bounds_by, perhaps_terms, perhaps_none, perhaps_some, call_name_lem, call_said, case_said, cast_first, cast_type, cast_said, part_there, part_on, constraint_on, constraint_none, strength_at, group_perhaps, inner_there, inner_query, inner_terms, inner_q, inner_t, part_src, part_said, on_said, using_said, on_none, in_parens, in_query, operand_code, operand_leaf, names_row, names_said, parens_said, sub_said, operand_prefix, order_perhaps, trails_binary, trails_between, trails_in, in_given, list_terms, list_toks, in_list}
+use Rattle.scribe.proofs.Tokens.{◌after◌, puts_as, nothing_put}
+use Rattle.scribe.proofs.Kids.{known, Maybe, may_there}
+use Rattle.scribe.proofs.Parts.{Terms, terms_toks, Term, Along, leads_of, Yet, Perhaps, may_toks, Many, Inside, limit_toks, tail_toks, Coded, whens_toks}
+use Rattle.kinds.specs.Kinds.{DISTINCT, HAVING, COMMA, SELECT}
+use Rattle.grammar.specs.Reading.{choose}
+use Rattle.grammar.specs.Writing.{tok, within, at, joined, parted, rows}
+use borrow.Author.Rules.{rules}
+use mathlib.Core.Path.{sym, ap, ◌∙◌, subst⁻¹, refl, ◌≡◌, ap₂}
+use mathlib.Core.List.{[], ◌∷◌, ◌++◌}
+use Prim.Native.Nat.{ℕ, ◌-◌, ◌+◌, ◌≤◌, ◌<◌}
+use lib.Dec.{eqb, ltb}
+use native.Mathlib.Omega.{arith}
+use Rattle.scribe.proofs.Spelt.{body_is, between_kids, at_zero, from_spelt, from_is, select_kids, query_kids, prefix_kids, prefix_spelt, query_spelt, binary_kids, select_spelt, query_source_kids, query_source_spelt, source_is, values_spelt}
+use mathlib.Core.Logic.{⊎_elim, inl}
+use Rattle.scribe.proofs.Leading.{backs}
+use Rattle.scribe.proofs.Lists.{case_kids, case_toks}
+use Rattle.shapes.specs.Shape.{an_expr, a_constraint, a_from, a_source, a_body, list_of}
+use Rattle.scribe.proofs.Whole.{piece_at, Whole, before_of}
+use Rattle.scribe.proofs.Clauses.{may_here, clause_gone, clause_here, no_from, some_from, may_gone}
+use Rattle.scribe.proofs.Turns.{along_start, along_turn, bare_ends, bare_operand, bare_goes, FromRest, from_yet, from_part, joined_more, joined_done, row_yet, many_last, parted_more, parted_final, parted_done, rows_yet, rows_more, rows_final, rows_done, CaseRest, case_yet, case_result, case_condition, case_more, case_base_at, case_done}
+use borrow.Author.Tests.{not-false, not-true}
+use lib.ListN.{length}
+use Rattle.canon.proofs.Folds.{P}
+use Rattle.kinds.specs.Strength.{prefix_of}
+use Rattle.grammar.specs.NodeNames.{node_values, node_case}
+use Rattle.writer.proofs.+spelling.Given as goal
+
+abbrev pub decreases-args : goal.decreases-args
+decreases-args l = rank 8 l.i
+
+abbrev pub decreases-body : goal.decreases-body
+decreases-body l = rank 5 l.i
+
+abbrev pub decreases-bounds : goal.decreases-bounds
+decreases-bounds l = rank 9 l.i
+
+abbrev pub decreases-by : goal.decreases-by
+decreases-by l = rank 8 l.i
+
+abbrev pub decreases-call : goal.decreases-call
+decreases-call l = rank 9 l.i
+
+abbrev pub decreases-case : goal.decreases-case
+decreases-case l = rank 9 l.i
+
+abbrev pub decreases-cast : goal.decreases-cast
+decreases-cast l = rank 9 l.i
+
+abbrev pub decreases-clause : goal.decreases-clause
+decreases-clause l = rank 14 l.i
+
+abbrev pub decreases-constraint : goal.decreases-constraint
+decreases-constraint l = rank 3 l.i
+
+abbrev pub decreases-ex : goal.decreases-ex
+decreases-ex l = rank 12 l.end
+
+abbrev pub decreases-expr : goal.decreases-expr
+decreases-expr l = rank 13 l.i
+
+abbrev pub decreases-from : goal.decreases-from
+decreases-from l = rank 5 l.i
+
+abbrev pub decreases-group : goal.decreases-group
+decreases-group l = rank 2 l.i
+
+abbrev pub decreases-inner : goal.decreases-inner
+decreases-inner l = rank 9 l.i
+
+abbrev pub decreases-joining : goal.decreases-joining
+decreases-joining l = rank 4 l.i
+
+abbrev pub decreases-limit : goal.decreases-limit
+decreases-limit l = rank 5 l.i
+
+abbrev pub decreases-list : goal.decreases-list
+decreases-list l = rank 7 l.i
+
+abbrev pub decreases-on : goal.decreases-on
+decreases-on l = rank 3 l.i
+
+abbrev pub decreases-operand : goal.decreases-operand
+decreases-operand l = rank 11 l.i
+
+abbrev pub decreases-prefix : goal.decreases-prefix
+decreases-prefix l = rank 9 l.i
+
+abbrev pub decreases-query : goal.decreases-query
+decreases-query l = rank 6 l.i
+
+abbrev pub decreases-rest : goal.decreases-rest
+decreases-rest l = rank 11 l.i
+
+abbrev pub decreases-select : goal.decreases-select
+decreases-select l = rank 4 l.i
+
+abbrev pub decreases-source : goal.decreases-source
+decreases-source l = rank 3 l.i
+
+abbrev pub decreases-tail : goal.decreases-tail
+decreases-tail l = rank 3 l.i
+
+abbrev pub decreases-values : goal.decreases-values
+decreases-values l = rank 4 l.i
+
+abbrev pub decreases-whens : goal.decreases-whens
+decreases-whens l = rank 8 l.i
+
+abbrev pub decreases-within : goal.decreases-within
+decreases-within l = rank 10 l.i
+
+abbrev pub invariant-ex-loop-out : goal.invariant-ex-loop-out
+invariant-ex-loop-out l = (l.pairs + l.i ≤ l.end) × (length l.out ≡ length l.initial.out) × ((t : Term (nodes_of l.io) l.end) → Along (nodes_of l.io) (lane_in l.io) l.initial.out l.out l.i l.s l.pairs l.to l.from (at l.ask (piece_at t.whole)))
+
+abbrev pub decreases-ex-loop-out : goal.decreases-ex-loop-out
+decreases-ex-loop-out l = l.i
+
+abbrev pub invariant-from-loop-n : goal.invariant-from-loop-n
+invariant-from-loop-n l = (l.j < l.i) × (length l.out ≡ length l.initial.out) × ((w : Whole a_from (nodes_of l.io) l.i) → Yet joined (FromRest (nodes_of l.io)) (lane_in l.io) l.initial.out l.out l.j l.n l.to l.end (joined (P w.kids)))
+
+abbrev pub decreases-from-loop-n : goal.decreases-from-loop-n
+decreases-from-loop-n l = l.n
+
+abbrev pub invariant-list-loop-n : goal.invariant-list-loop-n
+invariant-list-loop-n l = (l.j < l.i) × (length l.out ≡ length l.initial.out) × ((t : Terms (nodes_of l.io) l.i) → Yet (parted (tok COMMA)) (Many t.class (nodes_of l.io)) (lane_in l.io) l.initial.out l.out l.j l.n l.to l.from (terms_toks (nodes_of l.io) l.i t))
+
+abbrev pub decreases-list-loop-n : goal.decreases-list-loop-n
+decreases-list-loop-n l = l.n
+
+abbrev pub invariant-values-loop-n : goal.invariant-values-loop-n
+invariant-values-loop-n l = (l.j < l.i) × (length l.out ≡ length l.initial.out) × ((w : Coded node_values (nodes_of l.io) l.i) → Yet rows (Many (list_of an_expr) (nodes_of l.io)) (lane_in l.io) l.initial.out l.out l.j l.n l.to l.from (rows (P w.whole.kids)))
+
+abbrev pub decreases-values-loop-n : goal.decreases-values-loop-n
+decreases-values-loop-n l = l.n
+
+abbrev pub invariant-whens-loop-n : goal.invariant-whens-loop-n
+invariant-whens-loop-n l = (l.j < l.i) × (length l.out ≡ length l.initial.out) × ((w : Coded node_case (nodes_of l.io) l.i) → Yet case_toks (CaseRest (nodes_of l.io)) (lane_in l.io) l.initial.out l.out l.j (l.n - 1) l.to l.from (whens_toks (nodes_of l.io) l.i w))
+
+abbrev pub decreases-whens-loop-n : goal.decreases-whens-loop-n
+decreases-whens-loop-n l = l.n

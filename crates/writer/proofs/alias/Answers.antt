@@ -1,0 +1,12 @@
+use Rattle.writer.proofs.Said.{is_absent, is_there}
+use Rattle.scribe.proofs.Tokens.{nothing_put, ◌after◌, puts_as}
+use Rattle.scribe.proofs.Clauses.{clause_gone, clause_here}
+use borrow.Author.Rules.{rules}
+use mathlib.Core.Path.{refl}
+use Rattle.writer.proofs.alias.Goals as goal
+
+pub returns-then-code-eq-ABSENT : goal.returns-then-code-eq-ABSENT
+returns-then-code-eq-ABSENT c = record { told = λ m. puts_as (clause_gone refl _ m (is_absent m c.code.ensures c.if-code-eq-ABSENT.true)) nothing_put }
+
+pub returns : goal.returns
+returns c = record { told = λ m. let k = clause_here refl _ m (is_there m c.code.ensures c.if-code-eq-ABSENT.false) in puts_as k.1 (c.word.ensures after c.name-t.ensures.told k.0) }

@@ -1,0 +1,14 @@
+use Rattle.descent.proofs.Borrowed.{lent_at}
+use Rattle.kinds.proofs.StrengthTable.{looked_up}
+use Rattle.writer.proofs.Said.{binding_words, binding_kind}
+use Rattle.kinds.proofs.Small.{strength_small}
+use borrow.Author.Rules.{rules}
+use mathlib.Core.Path.{refl, ◌∙◌}
+use native.Mathlib.Omega.{arith}
+use Rattle.writer.proofs.binding.Goals as goal
+
+pub returns-then-detail-ge-WORDS : goal.returns-then-detail-ge-WORDS
+returns-then-detail-ge-WORDS c = λ u. (binding_words _ c.if-detail-ge-WORDS.true, omega arith)
+
+pub returns : goal.returns
+returns c = λ u. let e = looked_up _ (lent_at c.args.io.now 1 _ refl ∙ u) c.strength.ensures in (e ∙ binding_kind _ c.if-detail-ge-WORDS.false, let s = strength_small c.args.detail in omega (arith, e, s))

@@ -1,0 +1,14 @@
+use Rattle.writer.proofs.Leaves.{backs_step, backs_none}
+use Rattle.writer.specs.Pages.{nodes_of}
+use Rattle.scribe.proofs.Leading.{backs}
+use borrow.Author.Rules.{rules}
+use mathlib.Core.Path.{sym, ap, ◌∙◌, ◌≡◌}
+use Prim.Native.Nat.{◌-◌}
+use native.Mathlib.Omega.{arith}
+use Rattle.writer.proofs.child.Given as goal
+
+abbrev pub invariant-loop-k : goal.invariant-loop-k
+invariant-loop-k l = backs (nodes_of l.io) l.k l.j ≡ backs (nodes_of l.io) l.n (l.i - 1)
+
+abbrev pub decreases-loop-k : goal.decreases-loop-k
+decreases-loop-k l = l.k

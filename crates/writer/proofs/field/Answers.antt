@@ -1,0 +1,11 @@
+use Rattle.descent.proofs.Borrowed.{lent_at}
+use Rattle.writer.proofs.Leaves.{field_past, field_there}
+use borrow.Author.Rules.{rules}
+use mathlib.Core.Path.{refl}
+use Rattle.writer.proofs.field.Goals as goal
+
+pub returns-then-at-nodes : goal.returns-then-at-nodes
+returns-then-at-nodes c = field_past _ (lent_at c.args.io.now 0 _ refl) c.if-at-nodes.true
+
+pub returns : goal.returns
+returns c = field_there _ _ (lent_at c.args.io.now 0 _ refl) c.if-i-eq0.false refl

@@ -1,0 +1,14 @@
+use Rattle.writer.proofs.Leaves.{children_at_lem, before_most, backs_step, backs_none}
+use Rattle.writer.specs.Pages.{nodes_of}
+use Rattle.scribe.proofs.Leading.{backs}
+use borrow.Author.Rules.{rules}
+use mathlib.Core.Path.{sym, ap, ◌∙◌, ◌≡◌}
+use Prim.Native.Nat.{◌-◌, ◌≤◌}
+use native.Mathlib.Omega.{arith}
+use Rattle.writer.proofs.first.Given as goal
+
+abbrev pub invariant-loop-n : goal.invariant-loop-n
+invariant-loop-n l = (l.j ≤ l.i - 1) × (backs (nodes_of l.io) (l.n - 1) l.j ≡ backs (nodes_of l.io) (l.initial.n - 1) (l.i - 1))
+
+abbrev pub decreases-loop-n : goal.decreases-loop-n
+decreases-loop-n l = l.n

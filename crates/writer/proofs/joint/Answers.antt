@@ -1,0 +1,11 @@
+use Rattle.writer.proofs.Said.{join_said}
+use Rattle.scribe.proofs.Tokens.{◌after◌, puts_as}
+use Rattle.scribe.proofs.Spelt.{join_comma}
+use borrow.Author.Rules.{rules}
+use Rattle.writer.proofs.joint.Goals as goal
+
+pub returns-then-d-lt-FLAGS : goal.returns-then-d-lt-FLAGS
+returns-then-d-lt-FLAGS c = λ h. puts_as (join_comma h c.if-d-lt-FLAGS.true) c.word.ensures
+
+pub returns : goal.returns
+returns c = λ h. puts_as (join_said _ c.if-d-lt-FLAGS.false c.fewest-w.ensures) (c.join_word.ensures after c.join_word-two.ensures after c.word-j.ensures)

@@ -1,0 +1,13 @@
+use Rattle.grammar.specs.Reading.{choose}
+use borrow.Author.Rules.{rules}
+use mathlib.Core.Path.{sym, ap}
+use Prim.Native.Nat.{◌+◌}
+use Rattle.writer.proofs.one_more.Goals as goal
+
+pub returns-then-said : goal.returns-then-said
+unfolding choose
+returns-then-said c = sym (ap (λ b. choose b (c.args.n + 1) c.args.n) c.if-said.true)
+
+pub returns : goal.returns
+unfolding choose
+returns c = sym (ap (λ b. choose b (c.args.n + 1) c.args.n) c.if-said.false)

@@ -1,0 +1,9 @@
+use Rattle.writer.proofs.Said.{taken_join, taken_source}
+use borrow.Author.Rules.{rules}
+use Rattle.writer.proofs.taken.Goals as goal
+
+pub returns-then-code-eq-JOIN : goal.returns-then-code-eq-JOIN
+returns-then-code-eq-JOIN c = taken_join c.code.ensures c.if-code-eq-JOIN.true c.child.ensures
+
+pub returns : goal.returns
+returns c = taken_source c.code.ensures c.if-code-eq-JOIN.false

@@ -1,0 +1,6 @@
+use Rattle.scribe.proofs.Tokens.{◌after◌}
+use borrow.Author.Rules.{rules}
+use Rattle.writer.proofs.way.Goals as goal
+
+pub returns : goal.returns
+returns c = c.word_if.ensures after c.nulls-n.ensures

@@ -1,0 +1,6 @@
+use Rattle.scribe.proofs.Tokens.{◌after◌}
+use borrow.Author.Rules.{rules}
+use Rattle.writer.proofs.words.Goals as goal
+
+pub returns : goal.returns
+returns c = c.word.ensures after c.word-t.ensures
