@@ -17,7 +17,7 @@ use Rattle.descent.proofs.Prefixes.{prefix_ok}
 use Rattle.descent.proofs.Compounds.{compound_ok}
 use Rattle.descent.proofs.Leaves.{leaf_ok}
 use Rattle.descent.proofs.Expression.{expr_ok}
-use Rattle.descent.proofs.GoingOn.{ops_ok}
+use Rattle.descent.proofs.GoesOnOrNot.{ops_ok}
 use Rattle.descent.proofs.Binary.{binary_ok, after_ok, between_ok}
 use Rattle.descent.proofs.Inside.{inside_ok}
 use Rattle.descent.proofs.Negated.{negated_ok}

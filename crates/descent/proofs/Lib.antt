@@ -45,6 +45,7 @@ pub mod Compounds
 pub mod Leaves
 pub mod Expression
 pub mod GoingOn
+pub mod GoesOnOrNot
 pub mod Made
 pub mod Binary
 pub mod Inside

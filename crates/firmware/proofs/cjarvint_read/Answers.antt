@@ -1,4 +1,3 @@
-use borrow.Author.Rules.{rules}
 use native.Mathlib.Omega.{arith}
 use Rattle.firmware.proofs.Same.{same_reading}
 use Rattle.firmware.proofs.cjarvint_read.Goals as goal

@@ -1,4 +1,3 @@
-use borrow.Author.Rules.{rules}
 use Rattle.firmware.proofs.Same.{same_writing}
 use Rattle.firmware.proofs.cjarvint_write.Goals as goal
 

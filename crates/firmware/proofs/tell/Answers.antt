@@ -1,4 +1,3 @@
-use borrow.Author.Rules.{rules}
 use mathlib.Core.Path.{sym, ap}
 use Rattle.reader.specs.Answers.{number, place}
 use Rattle.firmware.proofs.tell.Goals as goal

@@ -3,7 +3,6 @@ use mathlib.Core.List.{◌∷◌}
 use mathlib.Core.Path.{sym}
 use native.Mathlib.Omega.{arith}
 use Rattle.kinds.proofs.StrengthTable.{past, entry_at}
-use borrow.Author.Rules.{rules}
 use Rattle.kinds.proofs.strength.Goals as goal
 
 pub returns-then-i-table : goal.returns-then-i-table

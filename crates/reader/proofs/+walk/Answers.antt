@@ -1,23 +1,21 @@
 use Rattle.reader.proofs.Steps.{further, refused, ended, got_in, passed_on, opened, opening, opens_refused, one_on, same_answer, null_before, seen_as, opens_in}
-use borrow.Author.Rules.{rules}
 use native.Mathlib.Omega.{arith}
-use Prim.Native.Nat.{ℕ, ◌+◌, ◌<◌, ◌≤◌, ◌*◌, ◌-◌}
+use Prim.Native.Nat.{◌+◌, ◌<◌, ◌≤◌}
 use Rattle.reader.proofs.Laying.{took, left, misfit, next, at_once, is, isn't, goes, halts, topped, by_kind, laid, capped, halted, query_opened, queries_of_lem, by_walk, two_ways, ◌also◌, behind, loop_start, for_any, laid_joined, so, strength_of, differs, filled_as, no_left, no_right, closed, at_second, laid_as}
-use Rattle.descent.proofs.Walk.{expr_w, cols_w, leaf_w, operand_w, joins_w, deeper, dotted_w, list_w, ops_w, not_b, rows_w, terms_w, when_w}
-use Rattle.reader.specs.Laying.{one, is_bare, absences, Packed, Onward, Laid, Later, begins_join, literal_text}
+use Rattle.descent.proofs.Walk.{expr_w, leaf_w, operand_w, deeper, dotted_w, not_b}
+use Rattle.reader.specs.Laying.{one, is_bare, absences, Laid, Later, begins_join, literal_text}
 use Rattle.reader.proofs.KindTests.{between_in, between_out, bare_either, bare_neither, distinct_walk, deep_walk, indexed_heads_none, heads_call_lem, Sign, sign_is, no_sign, ops_walk, ops_goes, no_parts, select_walk, prefix_walk, no_tail}
 use Rattle.theory.specs.Table.{both}
-use mathlib.Core.Path.{ap, refl, sym, ◌∙◌, ◌≡◌, ap₂}
-use mathlib.Core.Logic.{⊎_elim, inl, inr}
+use mathlib.Core.Path.{ap, refl, sym, ◌∙◌, ap₂}
+use mathlib.Core.Logic.{inl, inr}
 use lib.Dec.{leb, eqb, ltb}
 use Rattle.reader.specs.Bounds.{Asks, queries_of, kinds_of, texts_of, tokens, Within, Seen, got_of}
 use Rattle.theory.proofs.Cases.{le-leb, eqb-true, both_i}
-use borrow.Author.Tests.{lt-leb, ne_eqb, lt-ltb, le-ltb, not-false, not-true}
-use Rattle.kinds.specs.Kinds.{STAR, NOT}
+use borrow.Author.Tests.{lt-leb, ne_eqb, lt-ltb, le-ltb}
+use Rattle.kinds.specs.Kinds.{STAR}
 use Rattle.descent.proofs.Filling.{◌then◌, nothing}
-use mathlib.Core.List.{◌++◌, List, []}
+use mathlib.Core.List.{◌++◌, []}
 use lib.ListN.{length, get_or}
-use Rattle.grammar.specs.Limits.{Around}
 use Rattle.grammar.specs.Reading.{choose}
 use Rattle.kinds.specs.Classes.{literal_code, heads_call}
 use Rattle.reader.proofs.TwoLists.{like_text}
@@ -25,7 +23,6 @@ use Rattle.reader.proofs.Operators.{Way, op_binary, op_inside, op_between, op_li
 use Rattle.kinds.specs.Strength.{prefix_of}
 use Rattle.reader.proofs.Tables.{strength_is}
 use Rattle.kinds.proofs.Small.{strength_small, prefix_small}
-use Rattle.reader.specs.declared.Step.{Step}
 use Rattle.reader.proofs.+walk.Goals as goal
 use Rattle.reader.proofs.+walk.Goals.{among-in_default-via-else-kind-lt52+else-kind-lt54, among-in_default-via-then-kind-lt52, call-else-kind-eq-DISTINCT, call-then-kind-eq-DISTINCT, ex-in-1-to-11, ex-in_default, ex-in_default-via-else-kind-lt1+else-kind-lt12, ex-in_default-via-then-kind-lt1, leaf-else-next-eq-LP, leaf-then-next-eq-LP+else-kind-ne-INDEXED, op-else-kind-eq-NOT, op-else-kind-eq-NOT-2, op-else-peek-eq-NOT, op-then-kind-eq-NOT, op-then-kind-eq-NOT-2, op-then-peek-eq-NOT, operand-in-27-1, operand-in_default+else-kind-lt18+then-kind-lt20, operand-in_default-via-else-kind-lt18+else-kind-lt20, operand-in_default-via-then-kind-lt18, ops-else-k-eq0+else-k-s+then-left-k, ops-else-k-eq0+then-k-s, ops-then-k-eq0, paren-in_default-via-else-kind-lt52+else-kind-lt54, paren-in_default-via-then-kind-lt52, parts-in_default-via-else-kind-lt60+else-kind-lt62, parts-in_default-via-then-kind-lt60, row-else-width-gt0, row-then-width-gt0+else-n-width, select-else-detail-gt0, select-in-54, select-in-55, select-in_default, select-then-detail-gt0, sign-else-kind-eq-NOT, sign-then-kind-eq-NOT+else-asked-gt-NOT_STANDS}
 

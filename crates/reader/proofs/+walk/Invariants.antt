@@ -1,31 +1,13 @@
 use Rattle.reader.specs.Bounds.{rank}
-use Rattle.reader.proofs.Steps.{further, refused, ended, got_in, passed_on, opened, opening, opens_refused, one_on, same_answer, null_before, seen_as, opens_in}
-use borrow.Author.Rules.{rules}
-use native.Mathlib.Omega.{arith}
-use Prim.Native.Nat.{ℕ, ◌+◌, ◌<◌, ◌≤◌, ◌*◌, ◌-◌}
-use Rattle.reader.proofs.Laying.{took, left, misfit, next, at_once, is, isn't, goes, halts, topped, by_kind, laid, capped, halted, query_opened, queries_of_lem, by_walk, two_ways, ◌also◌, behind, loop_start, for_any, laid_joined, so, strength_of, differs, filled_as, no_left, no_right, closed, at_second, laid_as}
-use Rattle.descent.proofs.Walk.{expr_w, cols_w, leaf_w, operand_w, joins_w, deeper, dotted_w, list_w, ops_w, not_b, rows_w, terms_w, when_w}
-use Rattle.reader.specs.Laying.{one, is_bare, absences, Packed, Onward, Laid, Later, begins_join, literal_text}
-use Rattle.reader.proofs.KindTests.{between_in, between_out, bare_either, bare_neither, distinct_walk, deep_walk, indexed_heads_none, heads_call_lem, Sign, sign_is, no_sign, ops_walk, ops_goes, no_parts, select_walk, prefix_walk, no_tail}
-use Rattle.theory.specs.Table.{both}
-use mathlib.Core.Path.{ap, refl, sym, ◌∙◌, ◌≡◌, ap₂}
-use mathlib.Core.Logic.{⊎_elim, inl, inr}
-use lib.Dec.{leb, eqb, ltb}
-use Rattle.reader.specs.Bounds.{Asks, queries_of, kinds_of, texts_of, tokens, Within, Seen, got_of}
-use Rattle.theory.proofs.Cases.{le-leb, eqb-true, both_i}
-use borrow.Author.Tests.{lt-leb, ne_eqb, lt-ltb, le-ltb, not-false, not-true}
-use Rattle.kinds.specs.Kinds.{STAR, NOT}
-use Rattle.descent.proofs.Filling.{◌then◌, nothing}
-use mathlib.Core.List.{◌++◌, List, []}
-use lib.ListN.{length, get_or}
+use Prim.Native.Nat.{ℕ, ◌+◌, ◌≤◌, ◌*◌, ◌-◌}
+use Rattle.reader.proofs.Laying.{left}
+use Rattle.descent.proofs.Walk.{cols_w, joins_w, list_w, ops_w, rows_w, terms_w, when_w}
+use Rattle.reader.specs.Laying.{Packed, Onward, Laid, Later}
+use mathlib.Core.Path.{◌≡◌}
+use Rattle.reader.specs.Bounds.{kinds_of, texts_of, tokens}
+use mathlib.Core.List.{List}
+use lib.ListN.{length}
 use Rattle.grammar.specs.Limits.{Around}
-use Rattle.grammar.specs.Reading.{choose}
-use Rattle.kinds.specs.Classes.{literal_code, heads_call}
-use Rattle.reader.proofs.TwoLists.{like_text}
-use Rattle.reader.proofs.Operators.{Way, op_binary, op_inside, op_between, op_like, op_null, op_is, op_collate, op_postfix}
-use Rattle.kinds.specs.Strength.{prefix_of}
-use Rattle.reader.proofs.Tables.{strength_is}
-use Rattle.kinds.proofs.Small.{strength_small, prefix_small}
 use Rattle.reader.specs.declared.Step.{Step}
 use Rattle.reader.proofs.+walk.Given as goal
 

@@ -1,4 +1,3 @@
-use borrow.Author.Rules.{rules}
 use Rattle.reader.proofs.Laying.{absent_one}
 use Rattle.reader.specs.Laying.{absences}
 use native.Mathlib.Omega.{arith}

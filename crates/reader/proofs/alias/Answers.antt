@@ -1,7 +1,6 @@
 use Rattle.reader.proofs.Steps.{ended, further}
-use mathlib.Core.Logic.{⊎_elim, inl, inr}
+use mathlib.Core.Logic.{inl, inr}
 use native.Mathlib.Omega.{arith}
-use borrow.Author.Rules.{rules}
 use Rattle.reader.proofs.Laying.{laid, left, by_walk, is, isn't, by_kind, two_ways}
 use Rattle.reader.proofs.KindTests.{bare_in, bare_out}
 use Rattle.descent.proofs.Walk.{alias_w}

@@ -1,12 +1,8 @@
-use Prim.Native.Nat.{◌-◌, ◌<◌, ◌≤◌, ℕ}
 use Rattle.reader.proofs.TwoLists.{likes_few, or_none}
-use Rattle.reader.proofs.Fitness.{FitAt, all_below, fit_at, none_or}
-use Rattle.reader.specs.Laying.{FitLists}
+use Rattle.reader.proofs.Fitness.{all_below, fit_at, none_or}
 use borrow.Author.Count.{below_more}
-use borrow.Author.Rules.{rules}
 use borrow.Author.Tests.{eq-eqb, eqb-true}
-use lib.ListN.{get_or, length}
-use mathlib.Core.Path.{◌≡◌, refl}
+use mathlib.Core.Path.{refl}
 use native.Mathlib.Omega.{arith}
 use Rattle.reader.proofs.all_fit.Goals as goal
 

@@ -1,6 +1,5 @@
 use Rattle.reader.specs.Bounds.{queries_of, strength_asked}
 use native.Mathlib.Omega.{arith}
-use borrow.Author.Rules.{rules}
 use Rattle.reader.proofs.Laying.{repacked}
 use Rattle.reader.proofs.asking.Goals as goal
 

@@ -1,6 +1,5 @@
 use Rattle.reader.proofs.Steps.{further}
 use native.Mathlib.Omega.{arith}
-use borrow.Author.Rules.{rules}
 use Rattle.reader.proofs.Laying.{took, left}
 use Rattle.descent.proofs.Filling.{nothing}
 use Rattle.theory.proofs.Cases.{eqb-true}

@@ -1,6 +1,5 @@
 use Rattle.reader.proofs.Steps.{ended, got_in, one_on, passed_on}
 use native.Mathlib.Omega.{arith}
-use borrow.Author.Rules.{rules}
 use Rattle.reader.proofs.Laying.{laid, goes, halts, capped}
 use Rattle.descent.proofs.Walk.{collate_w}
 use mathlib.Core.Path.{refl}

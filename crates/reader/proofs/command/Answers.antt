@@ -1,7 +1,6 @@
 use Rattle.reader.proofs.Steps.{got_in, passed_on, refused}
 use Rattle.reader.specs.Bounds.{queries_of, strength_asked}
 use native.Mathlib.Omega.{arith}
-use borrow.Author.Rules.{rules}
 use Rattle.reader.proofs.Laying.{outer_packed, laid, took, left, goes, halts, misfit, so, is, isn't}
 use Rattle.descent.proofs.Walk.{command_w}
 use Rattle.grammar.specs.Limits.{outer}

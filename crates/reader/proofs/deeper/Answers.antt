@@ -1,6 +1,5 @@
 use Rattle.reader.specs.Bounds.{queries_of}
 use native.Mathlib.Omega.{arith}
-use borrow.Author.Rules.{rules}
 use Rattle.reader.proofs.Laying.{one_deeper}
 use Rattle.reader.proofs.deeper.Goals as goal
 

@@ -1,6 +1,5 @@
 use Rattle.reader.proofs.Steps.{ended, got_in, one_on, passed_on}
 use native.Mathlib.Omega.{arith}
-use borrow.Author.Rules.{rules}
 use Rattle.reader.proofs.Laying.{laid, took, left, goes, halts, is, isn't}
 use Rattle.descent.proofs.Filling.{◌then◌}
 use Rattle.descent.proofs.Walk.{dots_w}

@@ -1,12 +1,10 @@
 use Rattle.reader.proofs.Steps.{ended, further}
 use native.Mathlib.Omega.{arith}
-use borrow.Author.Rules.{rules}
 use Rattle.reader.proofs.Laying.{laid, took, left, is, isn't, no_left, no_right}
 use Rattle.descent.proofs.Walk.{dotted_w}
 use Rattle.theory.proofs.Cases.{both_i, eqb-true}
 use borrow.Author.Tests.{ne_eqb}
 use mathlib.Core.Path.{refl}
-use mathlib.Core.Logic.{⊎_elim}
 use Rattle.reader.proofs.dotted.Goals as goal
 use Rattle.reader.proofs.dotted.Goals.{else-s-eq-COLUMN, then-s-eq-COLUMN+else-peek-eq-STAR}
 

@@ -1,6 +1,5 @@
 use Rattle.reader.proofs.Steps.{ended, refused}
 use native.Mathlib.Omega.{arith}
-use borrow.Author.Rules.{rules}
 use Rattle.reader.proofs.Laying.{laid, took, left, misfit, capped, is, isn't}
 use Rattle.descent.proofs.Walk.{ended_w}
 use mathlib.Core.Path.{refl}

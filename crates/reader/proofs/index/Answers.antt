@@ -1,6 +1,5 @@
 use Rattle.reader.proofs.Steps.{ended, got_in, one_on, passed_on, refused}
 use native.Mathlib.Omega.{arith}
-use borrow.Author.Rules.{rules}
 use Rattle.reader.proofs.Laying.{laid, took, left, goes, halts, misfit, is, isn't, differs}
 use Rattle.descent.proofs.Walk.{index_w}
 use Rattle.reader.specs.Laying.{absences}

@@ -1,16 +1,8 @@
 use Prim.Native.Nat.{◌-◌, ◌≤◌, ℕ, ◌+◌}
-use Rattle.reader.proofs.Steps.{ended, refused}
-use Rattle.reader.proofs.Tables.{united_small}
 use Rattle.reader.specs.Bounds.{tokens, kinds_of, texts_of}
-use borrow.Author.Rules.{rules}
-use native.Mathlib.Omega.{arith}
-use Rattle.reader.proofs.Laying.{laid, halted, took, left, by_walk, misfit, is, isn't}
-use Rattle.reader.proofs.KindTests.{join_wrong, join_full, join_word_lem, join_there}
-use Rattle.descent.proofs.Filling.{nothing}
-use Rattle.descent.proofs.Walk.{join_w, joined_w}
-use Rattle.words.specs.Flags.{NO_FLAGS, flags_of, united, legal}
-use borrow.Author.Tests.{not-false, not-true}
-use mathlib.Core.Path.{refl, sym, ap, ◌∙◌, ◌≡◌}
+use Rattle.descent.proofs.Walk.{join_w}
+use Rattle.words.specs.Flags.{NO_FLAGS}
+use mathlib.Core.Path.{◌≡◌}
 use Rattle.reader.proofs.joined.Given as goal
 
 abbrev pub invariant-loop-kind : goal.invariant-loop-kind

@@ -1,5 +1,3 @@
-use borrow.Author.Rules.{rules}
-use Rattle.reader.proofs.Laying.{left}
 use Rattle.grammar.specs.Reading.{choose}
 use Rattle.reader.specs.Bounds.{texts_of}
 use Rattle.theory.proofs.Cases.{eqb-true}

@@ -1,10 +1,10 @@
-use Prim.Native.Nat.{◌-◌, ◌<◌, ◌≤◌, ◌+◌}
-use lib.ListN.{length, length-set}
+use Prim.Native.Nat.{◌-◌, ◌+◌}
+use lib.ListN.{length-set}
 use mathlib.Core.Path.{◌≡◌, refl, ap}
 use native.Mathlib.Omega.{arith}
-use Rattle.reader.proofs.Laying.{left, filled_as, absent_more, absent_all, absent_cut}
+use Rattle.reader.proofs.Laying.{filled_as, absent_more, absent_all, absent_cut}
 use Rattle.descent.proofs.Filling.{nothing}
-use Rattle.descent.proofs.Fill.{fill, Filled}
+use Rattle.descent.proofs.Fill.{fill}
 use Rattle.reader.specs.Laying.{absences}
 use Rattle.reader.proofs.missing.Goals as goal
 

@@ -1,10 +1,7 @@
 use Prim.Native.Nat.{◌-◌, ◌<◌, ◌≤◌, ◌+◌}
-use lib.ListN.{length, length-set}
-use mathlib.Core.Path.{◌≡◌, refl, ap}
-use native.Mathlib.Omega.{arith}
-use Rattle.reader.proofs.Laying.{left, filled_as, absent_more, absent_all, absent_cut}
-use Rattle.descent.proofs.Filling.{nothing}
-use Rattle.descent.proofs.Fill.{fill, Filled}
+use lib.ListN.{length}
+use mathlib.Core.Path.{◌≡◌}
+use Rattle.descent.proofs.Fill.{Filled}
 use Rattle.reader.specs.Laying.{absences}
 use Rattle.reader.proofs.missing.Given as goal
 

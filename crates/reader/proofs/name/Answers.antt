@@ -1,10 +1,8 @@
 use Prim.Native.Nat.{◌<◌}
 use Rattle.reader.proofs.Steps.{ended, one_on_got, one_on_refused, refused}
 use Rattle.reader.proofs.Tables.{name_is}
-use borrow.Author.Tests.{not-false, not-true}
 use mathlib.Core.Path.{◌∙◌, refl, sym}
 use native.Mathlib.Omega.{arith}
-use borrow.Author.Rules.{rules}
 use Rattle.reader.proofs.Laying.{laid, took, left, misfit, is, by_kind}
 use Rattle.descent.proofs.Walk.{name_w}
 use Rattle.kinds.specs.Classes.{is_name}

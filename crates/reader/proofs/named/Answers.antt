@@ -1,4 +1,3 @@
-use borrow.Author.Rules.{rules}
 use Rattle.reader.proofs.Laying.{filled_as}
 use Rattle.grammar.specs.Nodes.{rec}
 use Rattle.kinds.specs.Classes.{name_code}

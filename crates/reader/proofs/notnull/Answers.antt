@@ -1,7 +1,6 @@
 use Rattle.reader.proofs.Steps.{null_got, null_refused}
 use mathlib.Core.Path.{refl}
 use native.Mathlib.Omega.{arith}
-use borrow.Author.Rules.{rules}
 use Rattle.reader.proofs.Laying.{laid, halted, took, left, closed}
 use Rattle.theory.proofs.Cases.{eqb-true}
 use borrow.Author.Tests.{ne_eqb}

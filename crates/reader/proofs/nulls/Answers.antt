@@ -1,6 +1,5 @@
 use Rattle.reader.proofs.Steps.{ended, refused}
 use native.Mathlib.Omega.{arith}
-use borrow.Author.Rules.{rules}
 use Rattle.reader.proofs.Laying.{laid, took, left, misfit, is, isn't, differs}
 use Rattle.descent.proofs.Filling.{nothing}
 use Rattle.descent.proofs.Walk.{nulls_w}

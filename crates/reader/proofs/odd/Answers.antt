@@ -3,7 +3,6 @@ use Rattle.reader.proofs.Fitness.{even_fit, fit_even}
 use lib.Bits.{bit_and, bit_or}
 use lib.Dec.{eqb, ltb}
 use mir.Val.{bool_byte}
-use borrow.Author.Rules.{rules}
 use Rattle.reader.proofs.odd.Goals as goal
 
 pub returns : goal.returns

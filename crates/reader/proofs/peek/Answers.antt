@@ -1,7 +1,6 @@
 use Rattle.reader.proofs.TwoLists.{seen, unseen}
 use mathlib.Core.Path.{refl}
 use native.Mathlib.Omega.{arith}
-use borrow.Author.Rules.{rules}
 use Rattle.reader.proofs.peek.Goals as goal
 
 pub returns-then-i-k : goal.returns-then-i-k

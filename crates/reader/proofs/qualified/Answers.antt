@@ -1,6 +1,5 @@
 use Rattle.reader.proofs.Steps.{further, got_in, one_on, passed_on}
 use native.Mathlib.Omega.{arith}
-use borrow.Author.Rules.{rules}
 use Rattle.reader.proofs.Laying.{took, left, goes, halts, behind, is, isn't}
 use Rattle.descent.proofs.Walk.{qualified_w}
 use Rattle.reader.specs.Laying.{absences}

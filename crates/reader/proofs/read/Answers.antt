@@ -1,8 +1,5 @@
-use borrow.Author.Rules.{rules}
-use Rattle.reader.proofs.Laying.{left}
 use Rattle.grammar.specs.Promise.{refusal_1, refusal_2}
 use Rattle.theory.proofs.Cases.{0≢1}
-use borrow.Author.Tests.{not-false, not-true}
 use mathlib.Core.Path.{refl, sym, ◌∙◌}
 use native.Mathlib.Omega.{arith}
 use Rattle.reader.proofs.read.Goals as goal

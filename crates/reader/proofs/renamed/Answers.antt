@@ -1,6 +1,5 @@
 use Rattle.reader.proofs.Steps.{ended, got_in, one_on, passed_on}
 use native.Mathlib.Omega.{arith}
-use borrow.Author.Rules.{rules}
 use Rattle.reader.proofs.Laying.{laid, took, left, goes, halts, is}
 use Rattle.theory.proofs.Cases.{eqb-true}
 use borrow.Author.Tests.{ne_eqb}

@@ -1,10 +1,5 @@
-use mathlib.Core.List.{List}
-use mathlib.Core.Path.{◌≡◌, ◌∙◌, ap}
-use Prim.Native.Nat.{ℕ, ◌<◌, ◌≤◌, ◌*◌, ◌+◌, ◌-◌}
-use borrow.Author.Rules.{rules}
-use lib.ListN.{length}
+use Prim.Native.Nat.{◌-◌}
 use native.Mathlib.Omega.{arith}
-use Rattle.reader.specs.Turning.{swapped_at, Turned}
 use Rattle.reader.proofs.Turning.{turned_on, turned_whole}
 use Rattle.reader.proofs.reverse.Goals as goal
 

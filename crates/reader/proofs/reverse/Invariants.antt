@@ -1,11 +1,8 @@
 use mathlib.Core.List.{List}
-use mathlib.Core.Path.{◌≡◌, ◌∙◌, ap}
-use Prim.Native.Nat.{ℕ, ◌<◌, ◌≤◌, ◌*◌, ◌+◌, ◌-◌}
-use borrow.Author.Rules.{rules}
+use mathlib.Core.Path.{◌≡◌}
+use Prim.Native.Nat.{ℕ, ◌<◌, ◌≤◌, ◌*◌}
 use lib.ListN.{length}
-use native.Mathlib.Omega.{arith}
-use Rattle.reader.specs.Turning.{swapped_at, Turned}
-use Rattle.reader.proofs.Turning.{turned_on, turned_whole}
+use Rattle.reader.specs.Turning.{Turned}
 use Rattle.reader.proofs.reverse.Given as goal
 
 abbrev pub invariant-loop-a : goal.invariant-loop-a

@@ -1,5 +1,4 @@
 use Rattle.reader.proofs.Turning.{rotated, unrotated}
-use borrow.Author.Rules.{rules}
 use Rattle.reader.proofs.rotate.Goals as goal
 
 pub returns-then-end-nodes : goal.returns-then-end-nodes

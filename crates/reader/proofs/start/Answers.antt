@@ -1,13 +1,11 @@
 use Rattle.reader.specs.Bounds.{tokens, texts, likes, unruled}
-use mathlib.Core.List.{List, [], ◌∷◌, ◌++◌}
-use mathlib.Core.Path.{◌≡◌, refl, sym, ap}
-use Prim.Native.Nat.{ℕ}
+use mathlib.Core.List.{◌++◌}
+use mathlib.Core.Path.{sym, ap}
 use lib.ListN.{length}
-use Rattle.reader.proofs.Laying.{left, paired}
+use Rattle.reader.proofs.Laying.{paired}
 use Rattle.descent.proofs.Borrowed.{none_left}
 use Rattle.reader.proofs.Strengths.{table_rules}
 use Rattle.reader.proofs.Answering.{refused_so, refused_some, without_room, accepted_so, few_refused, few_got}
-use borrow.Author.Rules.{rules}
 use native.Mathlib.Omega.{arith}
 use Rattle.reader.proofs.start.Goals as goal
 

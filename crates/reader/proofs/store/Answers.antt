@@ -1,9 +1,5 @@
-use lib.ListN.{length, length-set}
-use mathlib.Core.Logic.{⊎_elim}
-use mathlib.Core.Path.{◌∙◌, ap}
+use lib.ListN.{length-set}
 use native.Mathlib.Omega.{arith}
-use borrow.Author.Rules.{rules}
-use Rattle.reader.proofs.Laying.{left}
 use Rattle.descent.proofs.Fill.{fill}
 use Rattle.reader.proofs.store.Goals as goal
 use Rattle.reader.proofs.store.Goals.{else-base-nodes, then-base-nodes}

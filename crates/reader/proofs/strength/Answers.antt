@@ -1,4 +1,3 @@
-use borrow.Author.Rules.{rules}
 use Rattle.descent.proofs.Borrowed.{lent_at}
 use Rattle.reader.proofs.Strengths.{by_table}
 use mathlib.Core.Path.{refl}

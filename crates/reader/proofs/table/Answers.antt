@@ -1,7 +1,6 @@
 use Rattle.reader.proofs.Steps.{ended, got_in, passed_on}
-use mathlib.Core.Path.{◌∙◌, refl}
+use mathlib.Core.Path.{refl}
 use native.Mathlib.Omega.{arith}
-use borrow.Author.Rules.{rules}
 use Rattle.reader.proofs.Laying.{laid, goes, halts, topped}
 use Rattle.descent.proofs.Filling.{◌then◌}
 use Rattle.descent.proofs.Walk.{table_w}

@@ -3,7 +3,6 @@ use Rattle.reader.proofs.TwoLists.{has_text, text_is}
 use Rattle.reader.specs.Bounds.{texts}
 use mathlib.Core.Path.{refl}
 use native.Mathlib.Omega.{arith}
-use borrow.Author.Rules.{rules}
 use Rattle.reader.proofs.text.Goals as goal
 
 pub bounds-t-i : goal.bounds-t-i

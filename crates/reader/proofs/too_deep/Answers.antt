@@ -1,10 +1,8 @@
 use mathlib.Core.Path.{refl, sym, ap, ◌∙◌}
-use borrow.Author.Rules.{rules}
-use Rattle.reader.proofs.Laying.{left, is, no_left, no_right}
+use Rattle.reader.proofs.Laying.{is, no_left, no_right}
 use Rattle.reader.proofs.KindTests.{deep_weak, deep_strong, deep_five}
 use Rattle.reader.specs.Bounds.{strength_asked}
-use borrow.Author.Tests.{ne_eqb, not-false, not-true, le-ltb}
-use mathlib.Core.Logic.{⊎_elim}
+use borrow.Author.Tests.{ne_eqb, le-ltb}
 use native.Mathlib.Omega.{arith}
 use Rattle.reader.specs.declared.Step.TheVariants as step
 use Rattle.reader.proofs.too_deep.Goals as goal

@@ -1,13 +1,11 @@
-use Prim.Native.Nat.{◌*◌, ◌+◌, ◌-◌, ◌≤◌}
+use Prim.Native.Nat.{◌+◌}
 use Rattle.reader.proofs.Steps.{further, got_in, one_on, passed_on, refused}
-use Rattle.reader.specs.Bounds.{tokens, kinds_of, texts_of, got_of}
-use borrow.Author.Rules.{rules}
+use Rattle.reader.specs.Bounds.{got_of}
 use lib.ListN.{length}
-use mathlib.Core.Path.{◌≡◌, refl}
+use mathlib.Core.Path.{refl}
 use native.Mathlib.Omega.{arith}
 use Rattle.reader.proofs.Laying.{laid, took, left, goes, halts, by_walk, misfit, behind, next, at_once, whenever, so, loop_start, is, isn't, bind_onto}
 use Rattle.descent.proofs.Walk.{names_w, using_w}
-use Rattle.reader.specs.Laying.{Onward}
 use mathlib.Core.List.{[]}
 use Rattle.reader.proofs.using.Goals as goal
 

@@ -1,14 +1,9 @@
 use Prim.Native.Nat.{◌*◌, ◌+◌, ◌-◌, ◌≤◌}
-use Rattle.reader.proofs.Steps.{further, got_in, one_on, passed_on, refused}
-use Rattle.reader.specs.Bounds.{tokens, kinds_of, texts_of, got_of}
-use borrow.Author.Rules.{rules}
+use Rattle.reader.specs.Bounds.{tokens, kinds_of, texts_of}
 use lib.ListN.{length}
-use mathlib.Core.Path.{◌≡◌, refl}
-use native.Mathlib.Omega.{arith}
-use Rattle.reader.proofs.Laying.{laid, took, left, goes, halts, by_walk, misfit, behind, next, at_once, whenever, so, loop_start, is, isn't, bind_onto}
-use Rattle.descent.proofs.Walk.{names_w, using_w}
+use mathlib.Core.Path.{◌≡◌}
+use Rattle.descent.proofs.Walk.{names_w}
 use Rattle.reader.specs.Laying.{Onward}
-use mathlib.Core.List.{[]}
 use Rattle.reader.proofs.using.Given as goal
 
 abbrev pub invariant-loop-d : goal.invariant-loop-d

@@ -1,6 +1,5 @@
 use Rattle.reader.proofs.Steps.{further}
 use native.Mathlib.Omega.{arith}
-use borrow.Author.Rules.{rules}
 use Rattle.reader.proofs.Laying.{took, left, is, isn't, differs}
 use Rattle.descent.proofs.Walk.{way_w}
 use mathlib.Core.Path.{refl}

@@ -1,5 +1,4 @@
-use borrow.Author.Rules.{rules}
-use Rattle.reader.proofs.Laying.{left, is, wrong_end, wrong_token}
+use Rattle.reader.proofs.Laying.{is, wrong_end, wrong_token}
 use mathlib.Core.Path.{sym, ap, ◌∙◌}
 use Rattle.reader.specs.declared.Step.TheVariants as step
 use Rattle.reader.proofs.wrong.Goals as goal

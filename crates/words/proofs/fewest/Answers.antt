@@ -5,7 +5,6 @@ use Prim.Native.Nat.{ℕ}
 use Rattle.words.specs.Words.{NATURAL, NO_WORD}
 use Rattle.words.specs.Fewest.{writing}
 use Rattle.words.proofs.FewestCases.{no_natural, natural_fits, natural_alone, natural_and_none, natural_and_ending}
-use borrow.Author.Rules.{rules}
 use Rattle.words.proofs.fewest.Goals as goal
 
 pub overflow_sub-rest : goal.overflow_sub-rest

@@ -2,7 +2,6 @@
 -- Assumes nothing.
 use mathlib.Core.Path.{sym, ◌∙◌}
 use Rattle.words.proofs.LegalCases.{without_outer, inner_with_outer, outer_with_left, outer_without_left}
-use borrow.Author.Rules.{rules}
 use Rattle.words.proofs.legal.Goals as goal
 
 pub returns-then-has-2 : goal.returns-then-has-2

@@ -1,10 +1,6 @@
-use mathlib.Core.Path.{◌≡◌, sym, ◌∙◌}
-use mathlib.Core.List.{map}
-use Prim.Native.Nat.{◌≤◌, ◌-◌}
+use mathlib.Core.Path.{sym, ◌∙◌}
 use native.Mathlib.Omega.{arith}
-use lib.ListN.{length}
-use Rattle.words.specs.Words.{upper_of, equal}
-use Rattle.words.proofs.Compared.{left_equal, at_first, at_last, goes_on, stops, of_other_length}
+use Rattle.words.proofs.Compared.{at_first, at_last, goes_on, stops, of_other_length}
 use Rattle.words.proofs.same.Goals as goal
 
 pub returns-then-s-word : goal.returns-then-s-word

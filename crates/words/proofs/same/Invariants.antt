@@ -1,12 +1,11 @@
 -- `words::same` meets its contract. The loop's invariant: the two are of one length, and what is left from place i on decides. The
 -- measure is what is left of the length. Assumes nothing.
-use mathlib.Core.Path.{◌≡◌, sym, ◌∙◌}
+use mathlib.Core.Path.{◌≡◌}
 use mathlib.Core.List.{map}
 use Prim.Native.Nat.{◌≤◌, ◌-◌}
-use native.Mathlib.Omega.{arith}
 use lib.ListN.{length}
 use Rattle.words.specs.Words.{upper_of, equal}
-use Rattle.words.proofs.Compared.{left_equal, at_first, at_last, goes_on, stops, of_other_length}
+use Rattle.words.proofs.Compared.{left_equal}
 use Rattle.words.proofs.same.Given as goal
 
 abbrev pub invariant-loop-i : goal.invariant-loop-i

@@ -2,7 +2,6 @@
 -- Assumes nothing.
 use native.Mathlib.Nat.{le_of_suc-le-suc as at_most}
 use borrow.Author.Tests.{le-leb, lt-leb}
-use borrow.Author.Rules.{rules}
 use Rattle.words.proofs.upper.Goals as goal
 
 pub returns-in-97-to-122 : goal.returns-in-97-to-122

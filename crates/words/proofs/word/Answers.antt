@@ -2,7 +2,6 @@
 -- Assumes nothing.
 use Rattle.words.specs.Words.{words}
 use Rattle.words.proofs.Lookup.{met, passed, at_the_end, whole}
-use borrow.Author.Rules.{rules}
 use Rattle.words.proofs.word.Goals as goal
 
 pub returns-then-same : goal.returns-then-same

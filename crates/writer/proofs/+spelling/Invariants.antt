@@ -1,32 +1,16 @@
 use Rattle.writer.specs.Pages.{rank}
-use Rattle.writer.proofs.Leaves.{detail_of, code_of, backs_most, code_at_lem, children_at_lem, before_most}
-use Rattle.writer.proofs.Said.{spell_at, expr_term, is_absent, is_there, part_join, more_most}
 use Rattle.writer.specs.Pages.{nodes_of, lane_in}
-use Rattle.writer.proofs.Moves.{any_terms, args_star, args_list, coded, bounds_by, perhaps_terms, perhaps_none, perhaps_some, call_name_lem, call_said, case_said, cast_first, cast_type, cast_said, part_there, part_on, constraint_on, constraint_none, strength_at, group_perhaps, inner_there, inner_query, inner_terms, inner_q, inner_t, part_src, part_said, on_said, using_said, on_none, in_parens, in_query, operand_code, operand_leaf, names_row, names_said, parens_said, sub_said, operand_prefix, order_perhaps, trails_binary, trails_between, trails_in, in_given, list_terms, list_toks, in_list}
-use Rattle.scribe.proofs.Tokens.{◌after◌, puts_as, nothing_put}
-use Rattle.scribe.proofs.Kids.{known, Maybe, may_there}
-use Rattle.scribe.proofs.Parts.{Terms, terms_toks, Term, Along, leads_of, Yet, Perhaps, may_toks, Many, Inside, limit_toks, tail_toks, Coded, whens_toks}
-use Rattle.kinds.specs.Kinds.{DISTINCT, HAVING, COMMA, SELECT}
-use Rattle.grammar.specs.Reading.{choose}
-use Rattle.grammar.specs.Writing.{tok, within, at, joined, parted, rows}
-use borrow.Author.Rules.{rules}
-use mathlib.Core.Path.{sym, ap, ◌∙◌, subst⁻¹, refl, ◌≡◌, ap₂}
-use mathlib.Core.List.{[], ◌∷◌, ◌++◌}
-use Prim.Native.Nat.{ℕ, ◌-◌, ◌+◌, ◌≤◌, ◌<◌}
-use lib.Dec.{eqb, ltb}
-use native.Mathlib.Omega.{arith}
-use Rattle.scribe.proofs.Spelt.{body_is, between_kids, at_zero, from_spelt, from_is, select_kids, query_kids, prefix_kids, prefix_spelt, query_spelt, binary_kids, select_spelt, query_source_kids, query_source_spelt, source_is, values_spelt}
-use mathlib.Core.Logic.{⊎_elim, inl}
-use Rattle.scribe.proofs.Leading.{backs}
-use Rattle.scribe.proofs.Lists.{case_kids, case_toks}
-use Rattle.shapes.specs.Shape.{an_expr, a_constraint, a_from, a_source, a_body, list_of}
-use Rattle.scribe.proofs.Whole.{piece_at, Whole, before_of}
-use Rattle.scribe.proofs.Clauses.{may_here, clause_gone, clause_here, no_from, some_from, may_gone}
-use Rattle.scribe.proofs.Turns.{along_start, along_turn, bare_ends, bare_operand, bare_goes, FromRest, from_yet, from_part, joined_more, joined_done, row_yet, many_last, parted_more, parted_final, parted_done, rows_yet, rows_more, rows_final, rows_done, CaseRest, case_yet, case_result, case_condition, case_more, case_base_at, case_done}
-use borrow.Author.Tests.{not-false, not-true}
+use Rattle.scribe.proofs.Parts.{Terms, terms_toks, Term, Along, Yet, Many, Coded, whens_toks}
+use Rattle.kinds.specs.Kinds.{COMMA}
+use Rattle.grammar.specs.Writing.{tok, at, joined, parted, rows}
+use mathlib.Core.Path.{◌≡◌}
+use Prim.Native.Nat.{◌-◌, ◌+◌, ◌≤◌, ◌<◌}
+use Rattle.scribe.proofs.Lists.{case_toks}
+use Rattle.shapes.specs.Shape.{an_expr, a_from, list_of}
+use Rattle.scribe.proofs.Whole.{piece_at, Whole}
+use Rattle.scribe.proofs.Turns.{FromRest, CaseRest}
 use lib.ListN.{length}
 use Rattle.canon.proofs.Folds.{P}
-use Rattle.kinds.specs.Strength.{prefix_of}
 use Rattle.grammar.specs.NodeNames.{node_values, node_case}
 use Rattle.writer.proofs.+spelling.Given as goal
 

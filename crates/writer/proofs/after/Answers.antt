@@ -1,5 +1,4 @@
 use Rattle.writer.proofs.Said.{closes_null, closes_column, closes_sort, closes_collate}
-use borrow.Author.Rules.{rules}
 use Rattle.writer.proofs.after.Goals as goal
 
 pub returns-in-40 : goal.returns-in-40

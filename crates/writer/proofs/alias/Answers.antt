@@ -1,7 +1,6 @@
 use Rattle.writer.proofs.Said.{is_absent, is_there}
 use Rattle.scribe.proofs.Tokens.{nothing_put, ◌after◌, puts_as}
 use Rattle.scribe.proofs.Clauses.{clause_gone, clause_here}
-use borrow.Author.Rules.{rules}
 use mathlib.Core.Path.{refl}
 use Rattle.writer.proofs.alias.Goals as goal
 

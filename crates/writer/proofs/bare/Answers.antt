@@ -1,7 +1,5 @@
-use Rattle.writer.proofs.Said.{BaredTo, bare_on, bare_many, bare_other}
-use Rattle.theory.proofs.Cases.{0≢1, eqb-true, eqb_eq}
-use borrow.Author.Rules.{rules}
-use mathlib.Core.Path.{refl, sym, ◌∙◌}
+use Rattle.writer.proofs.Said.{bare_on, bare_many, bare_other}
+use mathlib.Core.Path.{refl}
 use Prim.Native.Nat.{◌<◌}
 use native.Mathlib.Omega.{arith}
 use Rattle.writer.proofs.bare.Goals as goal

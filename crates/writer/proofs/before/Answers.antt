@@ -1,5 +1,4 @@
 use Rattle.writer.proofs.Leaves.{before_is, before_none}
-use borrow.Author.Rules.{rules}
 use Rattle.writer.proofs.before.Goals as goal
 
 pub returns-then-size-i : goal.returns-then-size-i

@@ -2,7 +2,6 @@ use Rattle.descent.proofs.Borrowed.{lent_at}
 use Rattle.kinds.proofs.StrengthTable.{looked_up}
 use Rattle.writer.proofs.Said.{binding_words, binding_kind}
 use Rattle.kinds.proofs.Small.{strength_small}
-use borrow.Author.Rules.{rules}
 use mathlib.Core.Path.{refl, ◌∙◌}
 use native.Mathlib.Omega.{arith}
 use Rattle.writer.proofs.binding.Goals as goal

@@ -1,9 +1,7 @@
 use Rattle.writer.proofs.Leaves.{backs_step, backs_none}
 use Rattle.writer.specs.Pages.{nodes_of}
 use Rattle.scribe.proofs.Leading.{backs}
-use borrow.Author.Rules.{rules}
-use mathlib.Core.Path.{sym, ap, ◌∙◌, ◌≡◌}
-use Prim.Native.Nat.{◌-◌}
+use mathlib.Core.Path.{sym, ap, ◌∙◌}
 use native.Mathlib.Omega.{arith}
 use Rattle.writer.proofs.child.Goals as goal
 

@@ -1,10 +1,7 @@
-use Rattle.writer.proofs.Leaves.{backs_step, backs_none}
 use Rattle.writer.specs.Pages.{nodes_of}
 use Rattle.scribe.proofs.Leading.{backs}
-use borrow.Author.Rules.{rules}
-use mathlib.Core.Path.{sym, ap, ◌∙◌, ◌≡◌}
+use mathlib.Core.Path.{◌≡◌}
 use Prim.Native.Nat.{◌-◌}
-use native.Mathlib.Omega.{arith}
 use Rattle.writer.proofs.child.Given as goal
 
 abbrev pub invariant-loop-k : goal.invariant-loop-k

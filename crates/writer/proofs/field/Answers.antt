@@ -1,6 +1,5 @@
 use Rattle.descent.proofs.Borrowed.{lent_at}
 use Rattle.writer.proofs.Leaves.{field_past, field_there}
-use borrow.Author.Rules.{rules}
 use mathlib.Core.Path.{refl}
 use Rattle.writer.proofs.field.Goals as goal
 

@@ -1,9 +1,8 @@
 use Rattle.writer.proofs.Leaves.{children_at_lem, before_most, backs_step, backs_none}
 use Rattle.writer.specs.Pages.{nodes_of}
 use Rattle.scribe.proofs.Leading.{backs}
-use borrow.Author.Rules.{rules}
-use mathlib.Core.Path.{sym, ap, ◌∙◌, ◌≡◌}
-use Prim.Native.Nat.{◌-◌, ◌≤◌}
+use mathlib.Core.Path.{sym, ap, ◌∙◌}
+use Prim.Native.Nat.{◌-◌}
 use native.Mathlib.Omega.{arith}
 use Rattle.writer.proofs.first.Goals as goal
 

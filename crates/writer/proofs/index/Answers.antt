@@ -5,7 +5,6 @@ use Rattle.scribe.proofs.Tokens.{nothing_put, ◌after◌, puts_as}
 use Rattle.scribe.proofs.Kids.{Maybe}
 use Rattle.scribe.proofs.Clauses.{code_at}
 use Rattle.shapes.specs.Shape.{a_name}
-use borrow.Author.Rules.{rules}
 use mathlib.Core.Path.{sym, ap, ◌∙◌, subst⁻¹}
 use Rattle.writer.proofs.index.Goals as goal
 

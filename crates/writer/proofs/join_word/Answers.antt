@@ -1,6 +1,5 @@
 use Rattle.writer.proofs.Said.{join_none, join_some}
 use Rattle.scribe.proofs.Tokens.{nothing_put, puts_as}
-use borrow.Author.Rules.{rules}
 use Rattle.writer.proofs.join_word.Goals as goal
 
 pub returns-then-w-eq-NO_WORD : goal.returns-then-w-eq-NO_WORD

@@ -1,6 +1,5 @@
 use Rattle.writer.proofs.Said.{no_join_toks, join_toks_lem}
 use Rattle.scribe.proofs.Tokens.{nothing_put, puts_as}
-use borrow.Author.Rules.{rules}
 use Rattle.writer.proofs.joined.Goals as goal
 
 pub returns-then-code-ne-JOIN : goal.returns-then-code-ne-JOIN

@@ -1,7 +1,6 @@
 use Rattle.writer.proofs.Said.{join_said}
 use Rattle.scribe.proofs.Tokens.{◌after◌, puts_as}
 use Rattle.scribe.proofs.Spelt.{join_comma}
-use borrow.Author.Rules.{rules}
 use Rattle.writer.proofs.joint.Goals as goal
 
 pub returns-then-d-lt-FLAGS : goal.returns-then-d-lt-FLAGS

@@ -1,7 +1,6 @@
 use Rattle.writer.proofs.Leaves.{detail_of}
 use Rattle.writer.proofs.Said.{spell_at, leaf_null, leaf_star, leaf_name, leaf_name_star, leaf_literal}
 use Rattle.scribe.proofs.Tokens.{◌after◌, puts_as}
-use borrow.Author.Rules.{rules}
 use mathlib.Core.Path.{sym, ◌∙◌}
 use Rattle.writer.proofs.leaf.Goals as goal
 

@@ -1,7 +1,6 @@
 use Rattle.writer.proofs.Leaves.{code_of, detail_of}
 use Rattle.writer.proofs.Said.{name_said}
 use Rattle.scribe.proofs.Tokens.{puts_as}
-use borrow.Author.Rules.{rules}
 use Rattle.writer.proofs.name.Goals as goal
 
 pub returns : goal.returns

@@ -1,14 +1,10 @@
-use Rattle.writer.proofs.Leaves.{children_at_lem}
 use Rattle.writer.specs.Pages.{nodes_of, lane_in}
 use Rattle.scribe.proofs.Parts.{Row, Yet, Many}
-use Rattle.scribe.proofs.Turns.{row_yet, parted_more, parted_final, parted_done}
 use Rattle.grammar.specs.Writing.{tok, parted}
 use Rattle.canon.proofs.Folds.{P}
 use Rattle.shapes.specs.Shape.{a_name}
-use borrow.Author.Rules.{rules}
-use mathlib.Core.Path.{refl, ◌∙◌, ◌≡◌}
+use mathlib.Core.Path.{◌≡◌}
 use lib.ListN.{length}
-use native.Mathlib.Omega.{arith}
 use Rattle.writer.proofs.names.Given as goal
 
 abbrev pub invariant-loop-n : goal.invariant-loop-n

@@ -1,6 +1,5 @@
 use Rattle.writer.proofs.Said.{nulls_first, nulls_last, nulls_none}
 use Rattle.scribe.proofs.Tokens.{nothing_put, puts_as}
-use borrow.Author.Rules.{rules}
 use Rattle.writer.proofs.nulls.Goals as goal
 
 pub returns-in-1 : goal.returns-in-1

@@ -1,5 +1,4 @@
 use Rattle.grammar.specs.Reading.{choose}
-use borrow.Author.Rules.{rules}
 use mathlib.Core.Path.{sym, ap}
 use Prim.Native.Nat.{◌+◌}
 use Rattle.writer.proofs.one_more.Goals as goal

@@ -1,13 +1,6 @@
 use Rattle.writer.proofs.Said.{opens_none, opens_next, opens_all}
-use Rattle.writer.specs.Pages.{lane_in}
 use Rattle.scribe.proofs.Tokens.{nothing_put, ◌after◌, puts_as}
-use Rattle.scribe.proofs.Standing.{Puts}
-use Rattle.scribe.proofs.Parts.{opens}
-use borrow.Author.Rules.{rules}
-use mathlib.Core.Path.{refl, ◌∙◌, ◌≡◌}
-use mathlib.Core.List.{[]}
-use Prim.Native.Nat.{◌-◌, ◌≤◌}
-use lib.ListN.{length}
+use mathlib.Core.Path.{refl, ◌∙◌}
 use native.Mathlib.Omega.{arith}
 use Rattle.writer.proofs.opened.Goals as goal
 

@@ -1,6 +1,5 @@
 use Rattle.writer.proofs.Said.{binary_not_like, binary_like, binary_is_not, binary_kind}
 use Rattle.scribe.proofs.Tokens.{◌after◌, puts_as}
-use borrow.Author.Rules.{rules}
 use Rattle.writer.proofs.operator.Goals as goal
 
 pub returns-then-d-ge-NOT_LIKE : goal.returns-then-d-ge-NOT_LIKE

@@ -1,9 +1,8 @@
 use Rattle.descent.proofs.Borrowed.{lent_at}
 use Rattle.writer.proofs.Leaves.{put_none, put_one}
-use borrow.Author.Rules.{rules}
 use mathlib.Core.Path.{refl, sym, ap, ◌∙◌}
-use mathlib.Core.Logic.{⊎_elim, inl, inr}
-use lib.ListN.{length, length-set}
+use mathlib.Core.Logic.{inl, inr}
+use lib.ListN.{length}
 use Rattle.writer.proofs.put.Goals as goal
 use Rattle.writer.proofs.put.Goals.{else-at-out, else-which-eq0, then-at-out, then-which-eq0}
 

@@ -1,6 +1,5 @@
 use Rattle.writer.proofs.Said.{is_absent, is_there, schema_none, schema_some}
 use Rattle.scribe.proofs.Tokens.{nothing_put, ◌after◌, puts_as}
-use borrow.Author.Rules.{rules}
 use Rattle.writer.proofs.schema.Goals as goal
 
 pub returns-then-code-eq-ABSENT : goal.returns-then-code-eq-ABSENT

@@ -1,5 +1,4 @@
 use Rattle.scribe.proofs.Tokens.{◌after◌}
-use borrow.Author.Rules.{rules}
 use Rattle.writer.proofs.selected.Goals as goal
 
 pub returns : goal.returns

@@ -1,7 +1,6 @@
 use Rattle.writer.proofs.Said.{str_above}
 use Rattle.scribe.proofs.Spelt.{str_prefix, str_binary, str_collate, str_test, str_operand, str_none}
 use Rattle.kinds.proofs.Small.{prefix_small}
-use borrow.Author.Rules.{rules}
 use mathlib.Core.Path.{sym, ◌∙◌}
 use native.Mathlib.Omega.{arith}
 use Rattle.writer.proofs.strength.Goals as goal

@@ -1,7 +1,6 @@
 use Rattle.writer.proofs.Said.{spell_at, table_kids, table_said}
 use Rattle.scribe.proofs.Tokens.{◌after◌, puts_as}
 use Rattle.scribe.proofs.Leading.{backs}
-use borrow.Author.Rules.{rules}
 use Rattle.writer.proofs.table.Goals as goal
 
 pub returns : goal.returns

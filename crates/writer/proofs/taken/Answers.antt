@@ -1,5 +1,4 @@
 use Rattle.writer.proofs.Said.{taken_join, taken_source}
-use borrow.Author.Rules.{rules}
 use Rattle.writer.proofs.taken.Goals as goal
 
 pub returns-then-code-eq-JOIN : goal.returns-then-code-eq-JOIN

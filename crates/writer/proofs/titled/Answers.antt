@@ -1,7 +1,6 @@
 use Rattle.writer.proofs.Said.{spell_at, table_kids}
 use Rattle.scribe.proofs.Tokens.{◌after◌}
 use Rattle.scribe.proofs.Leading.{backs}
-use borrow.Author.Rules.{rules}
 use Rattle.writer.proofs.titled.Goals as goal
 
 pub returns : goal.returns

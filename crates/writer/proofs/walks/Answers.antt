@@ -1,7 +1,6 @@
 use Rattle.writer.specs.Pages.{Walks}
 use Rattle.writer.proofs.Moves.{coded}
 use Rattle.scribe.proofs.Spelt.{query_is}
-use borrow.Author.Rules.{rules}
 use mathlib.Core.Path.{refl, ap, subst⁻¹}
 use mathlib.Core.List.{List, ◌++◌}
 use Prim.Native.Nat.{ℕ, ◌-◌}

@@ -1,7 +1,6 @@
 use Rattle.scribe.proofs.Tokens.{nothing_put, puts_as}
 use Rattle.grammar.specs.Reading.{choose}
 use Rattle.grammar.specs.Writing.{tok}
-use borrow.Author.Rules.{rules}
 use mathlib.Core.Path.{ap}
 use mathlib.Core.List.{[], ◌∷◌}
 use Rattle.writer.proofs.word_if.Goals as goal

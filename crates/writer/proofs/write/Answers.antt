@@ -1,5 +1,4 @@
 use Rattle.scribe.proofs.Command.{whole_read, writes_unequal, writes_refused}
-use borrow.Author.Rules.{rules}
 use mathlib.Core.Path.{subst, subst⁻¹}
 use Prim.Native.Nat.{◌<◌}
 use native.Mathlib.Omega.{arith}
