@@ -1,6 +1,6 @@
 -- The contracts of `of_line` and `written` allow one answer and one content of each list: what the promises leave open, nothing, and what is told of it.
 -- Assumes nothing.
-use Prim.Native.Nat.{ℕ, ◌-◌, ◌≤◌, ◌<◌}
+use Prim.Native.Nat.{ℕ, ◌-◌, ◌≤◌}
 use mathlib.Core.Bool.{Bool, ◌&&◌}
 use mathlib.Core.List.{List, ◌++◌}
 use mathlib.Core.Path.{◌≡◌, sym, subst, ap, ◌∙◌}

@@ -1,13 +1,13 @@
 -- The first k numbers of a list, as many as it has of them, are lent and come back as others: what is the front then, and what is beyond.
 -- Assumes nothing.
-use Prim.Native.Nat.{ℕ, ◌+◌, ◌-◌, ◌≤◌, ◌<◌, min}
-use mathlib.Core.Path.{◌≡◌, refl, sym, ap, ◌∙◌}
+use Prim.Native.Nat.{ℕ, ◌+◌, ◌-◌, min}
+use mathlib.Core.Path.{◌≡◌, sym, ap, ◌∙◌}
 use mathlib.Core.List.{List, [], ◌++◌, append-nil}
 use mathlib.Core.Logic.{⊎_elim}
 use native.Mathlib.Nat.{eq-zero-or-pos}
 use native.Mathlib.Omega.{arith}
-use lib.ListN.{length, take, drop, length-take}
-use lib.Seq.{length-take-le, take-length, take_all, take-append-add, drop-append-add, drop-drop, drop-length}
+use lib.ListN.{length, take, drop}
+use lib.Seq.{take-length, take_all, take-append-add, drop-append-add, drop-drop, drop-length}
 
 module _ (k n : ℕ) (N : List ℕ) (e : n ≡ min k (length N)) where
   pub front : take n N ≡ take k N

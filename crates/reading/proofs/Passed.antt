@@ -1,7 +1,6 @@
 -- What the reader and the writer promise, and what is told of it, of lists that equal those that were lent.
 -- Assumes nothing.
 use Prim.Native.Nat.{ℕ}
-use mathlib.Core.Bool.{◌&&◌}
 use mathlib.Core.List.{List}
 use mathlib.Core.Path.{◌≡◌, sym, subst}
 use Rattle.grammar.specs.Promise.{Reads, Writes}

@@ -19,6 +19,10 @@ const C: u32 = 10;
 
 const D: u32 = 11;
 
+fn say(out: &impl Print, s: &str) -> Result<()> {
+    print!(out; "{s}")
+}
+
 fn number(out: &impl Print, n: u64) -> Result<()> {
     print!(out; " {n}")
 }
@@ -26,12 +30,12 @@ fn number(out: &impl Print, n: u64) -> Result<()> {
 // What the answer says, and a digest of the records that it left, of which there are none after a refusal.
 fn show(out: &impl Print, name: &str, got: Answer, nodes: &[u32; PLACES]) -> Result<()> {
     let r = reading::left(got, nodes);
-    print!(out; "{name}")?;
+    say(out, name)?;
     number(out, r.number as u64)?;
     number(out, r.place as u64)?;
     number(out, report::digest(0, nodes, r.used))?;
     if !r.kept {
-        print!(out; " and the table is changed beyond")?;
+        say(out, " and the table is changed beyond")?;
     }
     Ok(())
 }
@@ -73,16 +77,16 @@ fn show_writing<'a>(
 ) -> Result<()> {
     match got {
         Answer::Accepted(count) => {
-            print!(out; " :")?;
+            say(out, " :")?;
             tokens(out, kinds, texts, count)?;
         }
         Answer::Refused(n, place) => {
-            print!(out; ", not written:")?;
+            say(out, ", not written:")?;
             number(out, n as u64)?;
             number(out, place as u64)?;
         }
     }
-    println!(out; "")
+    say(out, "\n")
 }
 
 // The first `count` tokens, with a node table of their own.
