@@ -1,5 +1,4 @@
 // What `ask -h` says: a screenful, at most 24 lines of 80.
-use std::io::Result;
 
 const TEXT: [u8; 1253] =
     *b"ask reads SQL queries, given as tokens, one query a line, and answers each.
@@ -28,11 +27,11 @@ Each line is answered, whatever became of those before it.
 The exit status is always 0: the answers say which lines were refused.
 ";
 
-pub fn tell(out: &impl Print) -> Result<()> {
-    out.write_all(&TEXT)
+pub fn tell(out: &impl Print) {
+    let _ = out.write_all(&TEXT);
 }
 
 // An argument that is none of ours.
-pub fn point(errors: &impl Print) -> Result<()> {
-    errors.write_all(b"ask: the options are -v and -h; ask -h says more\n")
+pub fn point(errors: &impl Print) {
+    let _ = errors.write_all(b"ask: the options are -v and -h; ask -h says more\n");
 }

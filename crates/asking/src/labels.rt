@@ -2,7 +2,6 @@
 // reading has them.
 use crate::names::row;
 use report::{BLOCK, bytes, number, wide};
-use std::io::Result;
 
 // Names of codes, from 0 on.
 const CODES: [u8; 585] = *b"absent.......query........select.......values.......list.........\
@@ -64,9 +63,9 @@ pub fn record(
     waiting: usize,
     code: u32,
     detail: u32,
-) -> Result<usize> {
-    let denied = negation(out, block, waiting, code, detail)?;
-    let named = row(out, block, denied, &CODES, code as usize * 13, 13)?;
+) -> usize {
+    let denied = negation(out, block, waiting, code, detail);
+    let named = row(out, block, denied, &CODES, code as usize * 13, 13);
     match code {
         SELECT | COLUMN | CALL => one_word(out, block, named, code, detail),
         JOIN => join(out, block, named, detail),
@@ -74,7 +73,7 @@ pub fn record(
         SORT => sort(out, block, named, detail % 4, detail / 4),
         NAME..=CTIME => text(out, block, named, code, detail),
         PREFIX..=POSTFIX => operator(out, block, named, detail),
-        _ => Ok(named),
+        _ => named,
     }
 }
 
@@ -85,22 +84,16 @@ fn negation(
     waiting: usize,
     code: u32,
     detail: u32,
-) -> Result<usize> {
+) -> usize {
     match code {
         IN_LIST..=BETWEEN => flag(out, block, waiting, detail, b"NOT "),
-        _ => Ok(waiting),
+        _ => waiting,
     }
 }
 
-fn flag(
-    out: &impl Print,
-    block: &mut [u8; BLOCK],
-    waiting: usize,
-    bit: u32,
-    word: &[u8],
-) -> Result<usize> {
+fn flag(out: &impl Print, block: &mut [u8; BLOCK], waiting: usize, bit: u32, word: &[u8]) -> usize {
     if bit == 0 {
-        return Ok(waiting);
+        return waiting;
     }
     bytes(out, block, waiting, word)
 }
@@ -111,7 +104,7 @@ fn one_word(
     waiting: usize,
     code: u32,
     detail: u32,
-) -> Result<usize> {
+) -> usize {
     match code {
         SELECT => row(
             out,
@@ -133,7 +126,7 @@ fn one_word(
     }
 }
 
-fn alias(out: &impl Print, block: &mut [u8; BLOCK], waiting: usize, mode: u32) -> Result<usize> {
+fn alias(out: &impl Print, block: &mut [u8; BLOCK], waiting: usize, mode: u32) -> usize {
     row(
         out,
         block,
@@ -145,7 +138,7 @@ fn alias(out: &impl Print, block: &mut [u8; BLOCK], waiting: usize, mode: u32) -
 }
 
 // COMMA, or the words that the flags stand for.
-fn join(out: &impl Print, block: &mut [u8; BLOCK], waiting: usize, detail: u32) -> Result<usize> {
+fn join(out: &impl Print, block: &mut [u8; BLOCK], waiting: usize, detail: u32) -> usize {
     if detail == 0 {
         return bytes(out, block, waiting, b" COMMA");
     }
@@ -155,10 +148,10 @@ fn join(out: &impl Print, block: &mut [u8; BLOCK], waiting: usize, detail: u32) 
         waiting,
         detail & words::NATURAL_BIT,
         b" NATURAL",
-    )?;
+    );
     let sides = (detail & (words::LEFT_BIT | words::RIGHT_BIT)) / words::LEFT_BIT;
-    let sided = side(out, block, natural, sides)?;
-    let outer = flag(out, block, sided, detail & words::OUTER_BIT, b" OUTER")?;
+    let sided = side(out, block, natural, sides);
+    let outer = flag(out, block, sided, detail & words::OUTER_BIT, b" OUTER");
     inner(
         out,
         block,
@@ -167,7 +160,7 @@ fn join(out: &impl Print, block: &mut [u8; BLOCK], waiting: usize, detail: u32) 
     )
 }
 
-fn side(out: &impl Print, block: &mut [u8; BLOCK], waiting: usize, n: u32) -> Result<usize> {
+fn side(out: &impl Print, block: &mut [u8; BLOCK], waiting: usize, n: u32) -> usize {
     row(
         out,
         block,
@@ -178,7 +171,7 @@ fn side(out: &impl Print, block: &mut [u8; BLOCK], waiting: usize, n: u32) -> Re
     )
 }
 
-fn inner(out: &impl Print, block: &mut [u8; BLOCK], waiting: usize, n: u32) -> Result<usize> {
+fn inner(out: &impl Print, block: &mut [u8; BLOCK], waiting: usize, n: u32) -> usize {
     row(
         out,
         block,
@@ -196,8 +189,8 @@ fn source(
     waiting: usize,
     mode: u32,
     index: u32,
-) -> Result<usize> {
-    let at = alias(out, block, waiting, mode)?;
+) -> usize {
+    let at = alias(out, block, waiting, mode);
     row(
         out,
         block,
@@ -214,7 +207,7 @@ fn sort(
     waiting: usize,
     direction: u32,
     nulls: u32,
-) -> Result<usize> {
+) -> usize {
     let at = row(
         out,
         block,
@@ -222,7 +215,7 @@ fn sort(
         b"..... ASC. DESC",
         direction as usize * 5,
         5,
-    )?;
+    );
     row(
         out,
         block,
@@ -234,33 +227,22 @@ fn sort(
 }
 
 // The text number of a name or a literal.
-fn text(
-    out: &impl Print,
-    block: &mut [u8; BLOCK],
-    waiting: usize,
-    code: u32,
-    n: u32,
-) -> Result<usize> {
-    let marked = bytes(out, block, waiting, b" #")?;
-    let at = number(out, block, marked, wide(n))?;
+fn text(out: &impl Print, block: &mut [u8; BLOCK], waiting: usize, code: u32, n: u32) -> usize {
+    let marked = bytes(out, block, waiting, b" #");
+    let at = number(out, block, marked, wide(n));
     match code {
         STRING_NAME => bytes(out, block, at, b" from STRING"),
         INDEXED_NAME => bytes(out, block, at, b" from INDEXED"),
         JOIN_NAME => {
-            let from = bytes(out, block, at, b" from JOIN_KW ")?;
+            let from = bytes(out, block, at, b" from JOIN_KW ");
             crate::names::join_word(out, block, from, n)
         }
-        _ => Ok(at),
+        _ => at,
     }
 }
 
-fn operator(
-    out: &impl Print,
-    block: &mut [u8; BLOCK],
-    waiting: usize,
-    detail: u32,
-) -> Result<usize> {
-    let parted = bytes(out, block, waiting, b" ")?;
+fn operator(out: &impl Print, block: &mut [u8; BLOCK], waiting: usize, detail: u32) -> usize {
+    let parted = bytes(out, block, waiting, b" ");
     crate::names::operator(out, block, parted, detail)
 }
 
@@ -375,11 +357,6 @@ fn bound(before: u32) -> u32 {
     }
 }
 
-pub fn part_name(
-    out: &impl Print,
-    block: &mut [u8; BLOCK],
-    waiting: usize,
-    part: u32,
-) -> Result<usize> {
+pub fn part_name(out: &impl Print, block: &mut [u8; BLOCK], waiting: usize, part: u32) -> usize {
     row(out, block, waiting, &PARTS, part as usize * 11, 11)
 }

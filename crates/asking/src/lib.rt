@@ -41,16 +41,16 @@ fn begun(row: u64, waiting: usize) -> Now {
 }
 
 // The line's number, before what is said of it in words.
-fn heading(out: &impl Print, block: &mut [u8; BLOCK], waiting: usize, row: u64) -> Result<usize> {
-    let named = bytes(out, block, waiting, b"line ")?;
+fn heading(out: &impl Print, block: &mut [u8; BLOCK], waiting: usize, row: u64) -> usize {
+    let named = bytes(out, block, waiting, b"line ");
     number(out, block, named, row)
 }
 
 // Writes to standard error what stands first in the block.
-fn complain(errors: &impl Print, block: &[u8; BLOCK], count: usize) -> Result<()> {
+fn complain(errors: &impl Print, block: &[u8; BLOCK], count: usize) {
     let all: &[u8] = block;
     let n = report::least(count, all.len());
-    errors.write_all(&all[..n])
+    let _ = errors.write_all(&all[..n]);
 }
 
 // The line is neither form, or asks for too much: where, and why.
@@ -61,12 +61,12 @@ fn misread(
     row: u64,
     line: Line,
     m: Misfit,
-) -> Result<usize> {
-    let head = heading(out, block, waiting, row)?;
-    let named = bytes(out, block, head, b", byte ")?;
-    let placed = number(out, block, named, line.column)?;
-    let parted = bytes(out, block, placed, b": ")?;
-    let end = unread::reason(out, block, parted, m, lines::is_room(line))?;
+) -> usize {
+    let head = heading(out, block, waiting, row);
+    let named = bytes(out, block, head, b", byte ");
+    let placed = number(out, block, named, line.column);
+    let parted = bytes(out, block, placed, b": ");
+    let end = unread::reason(out, block, parted, m, lines::is_room(line));
     byte(out, block, end, b'\n')
 }
 
@@ -80,27 +80,22 @@ fn unreadable(
     line: Line,
     m: Misfit,
     aloud: bool,
-) -> Result<usize> {
+) -> usize {
     if aloud {
         return misread(out, block, waiting, row, line, m);
     }
-    report::flush(out, block, waiting)?;
-    let end = misread(out, block, 0, row, line, m)?;
-    complain(errors, block, end)?;
-    let named = bytes(out, block, 0, b"? at ")?;
-    let at = number(out, block, named, line.column)?;
+    report::flush(out, block, waiting);
+    let end = misread(out, block, 0, row, line, m);
+    complain(errors, block, end);
+    let named = bytes(out, block, 0, b"? at ");
+    let at = number(out, block, named, line.column);
     byte(out, block, at, b'\n')
 }
 
 // A number that the reader had no right to change.
-fn spoiled(
-    out: &impl Print,
-    block: &mut [u8; BLOCK],
-    waiting: usize,
-    index: usize,
-) -> Result<usize> {
-    let named = bytes(out, block, waiting, b"! table changed at ")?;
-    let at = number(out, block, named, index as u64)?;
+fn spoiled(out: &impl Print, block: &mut [u8; BLOCK], waiting: usize, index: usize) -> usize {
+    let named = bytes(out, block, waiting, b"! table changed at ");
+    let at = number(out, block, named, index as u64);
     byte(out, block, at, b'\n')
 }
 
@@ -111,27 +106,21 @@ fn records(
     waiting: usize,
     nodes: &[u32],
     count: usize,
-) -> Result<usize> {
+) -> usize {
     let end = report::within(count, nodes);
     let mut at = waiting;
     let mut i = 0;
     while i < end {
-        at = byte(out, block, at, if i % 4 == 0 { b' ' } else { b',' })?;
-        at = number(out, block, at, report::wide(nodes[i]))?;
+        at = byte(out, block, at, if i % 4 == 0 { b' ' } else { b',' });
+        at = number(out, block, at, report::wide(nodes[i]));
         i += 1;
     }
-    Ok(at)
+    at
 }
 
-fn two(
-    out: &impl Print,
-    block: &mut [u8; BLOCK],
-    waiting: usize,
-    n: u32,
-    place: usize,
-) -> Result<usize> {
-    let one = number(out, block, waiting, n as u64)?;
-    let at = byte(out, block, one, b' ')?;
+fn two(out: &impl Print, block: &mut [u8; BLOCK], waiting: usize, n: u32, place: usize) -> usize {
+    let one = number(out, block, waiting, n as u64);
+    let at = byte(out, block, one, b' ');
     number(out, block, at, place as u64)
 }
 
@@ -145,13 +134,13 @@ fn in_full<'a>(
     kinds: &'a [u32],
     texts: &'a [u32],
     nodes: &mut [u32],
-) -> Result<usize> {
-    let at = two(out, block, waiting, r.number, r.place)?;
+) -> usize {
+    let at = two(out, block, waiting, r.number, r.place);
     if r.number > 0 {
         return byte(out, block, at, b'\n');
     }
-    let parted = bytes(out, block, at, b" :")?;
-    let end = records(out, block, parted, nodes, r.used)?;
+    let parted = bytes(out, block, at, b" :");
+    let end = records(out, block, parted, nodes, r.used);
     writing::tell(out, block, end, line, kinds, texts, nodes, writing::FULL)
 }
 
@@ -165,9 +154,9 @@ fn in_short<'a>(
     kinds: &'a [u32],
     texts: &'a [u32],
     nodes: &mut [u32],
-) -> Result<usize> {
-    let named = bytes(out, block, waiting, b"R ")?;
-    let at = two(out, block, named, r.number, r.place)?;
+) -> usize {
+    let named = bytes(out, block, waiting, b"R ");
+    let at = two(out, block, named, r.number, r.place);
     writing::tell(out, block, at, line, kinds, texts, nodes, writing::SHORT)
 }
 
@@ -182,17 +171,17 @@ fn in_words<'a>(
     kinds: &'a [u32],
     texts: &'a [u32],
     nodes: &mut [u32],
-) -> Result<usize> {
-    let head = heading(out, block, waiting, row)?;
-    let parted = bytes(out, block, head, b": ")?;
+) -> usize {
+    let head = heading(out, block, waiting, row);
+    let parted = bytes(out, block, head, b": ");
     if r.number > 0 {
-        let end = refusals::refused(out, block, parted, r, line, kinds, texts)?;
+        let end = refusals::refused(out, block, parted, r, line, kinds, texts);
         return byte(out, block, end, b'\n');
     }
-    let said = bytes(out, block, parted, b"accepted, ")?;
-    let counted = refusals::many(out, block, said, r.place, b"record")?;
-    let begun = byte(out, block, counted, b'\n')?;
-    let drawn = tree::draw(out, block, begun, nodes, r.place)?;
+    let said = bytes(out, block, parted, b"accepted, ");
+    let counted = refusals::many(out, block, said, r.place, b"record");
+    let begun = byte(out, block, counted, b'\n');
+    let drawn = tree::draw(out, block, begun, nodes, r.place);
     writing::tell(out, block, drawn, line, kinds, texts, nodes, writing::WORDS)
 }
 
@@ -207,7 +196,7 @@ fn write<'a>(
     texts: &'a [u32],
     nodes: &mut [u32],
     aloud: bool,
-) -> Result<usize> {
+) -> usize {
     if !r.kept {
         return spoiled(out, block, waiting, r.changed);
     }
@@ -231,7 +220,7 @@ fn answer<'a>(
     block: &mut [u8; BLOCK],
     waiting: usize,
     aloud: bool,
-) -> Result<usize> {
+) -> usize {
     let r = reading::of_line(line, kinds, texts, nodes);
     let at = write(
         out, block, waiting, row, line, r, kinds, texts, nodes, aloud,
@@ -250,7 +239,7 @@ fn ended<'a>(
     nodes: &mut [u32],
     block: &mut [u8; BLOCK],
     aloud: bool,
-) -> Result<usize> {
+) -> usize {
     let taken = now.line;
     let line = lines::ended(taken);
     if lines::is_wrong(taken) {
@@ -307,12 +296,12 @@ fn one(
     nodes: &mut [u32],
     block: &mut [u8; BLOCK],
     aloud: bool,
-) -> Result<Now> {
+) -> Now {
     if b == b'\n' {
-        let waiting = ended(out, errors, old, kinds, texts, nodes, block, aloud)?;
-        return Ok(begun(old.row.wrapping_add(1), waiting));
+        let waiting = ended(out, errors, old, kinds, texts, nodes, block, aloud);
+        return begun(old.row.wrapping_add(1), waiting);
     }
-    Ok(taken(old, b, kinds, texts))
+    taken(old, b, kinds, texts)
 }
 
 fn fed(
@@ -325,16 +314,16 @@ fn fed(
     nodes: &mut [u32],
     block: &mut [u8; BLOCK],
     aloud: bool,
-) -> Result<Now> {
+) -> Now {
     let mut now = old;
     let mut i = 0;
     while i < input.len() {
         now = one(
             out, errors, now, input[i], kinds, texts, nodes, block, aloud,
-        )?;
+        );
         i += 1;
     }
-    Ok(now)
+    now
 }
 
 // Nothing waits, and there may be no more to read.
@@ -374,8 +363,8 @@ fn some(
         nodes,
         block,
         aloud,
-    )?;
-    report::flush(out, block, now.waiting)?;
+    );
+    report::flush(out, block, now.waiting);
     Ok(written(now, n > 0))
 }
 
@@ -389,10 +378,10 @@ fn last<'a>(
     nodes: &mut [u32],
     block: &mut [u8; BLOCK],
     aloud: bool,
-) -> Result<usize> {
+) -> usize {
     let line = now.line;
     if line.column == 0 {
-        return Ok(now.waiting);
+        return now.waiting;
     }
     ended(out, errors, now, kinds, texts, nodes, block, aloud)
 }
@@ -414,8 +403,9 @@ fn all(
         now = some(input, out, errors, now, kinds, texts, nodes, block, aloud)?;
         turns -= 1;
     }
-    let waiting = last(out, errors, now, kinds, texts, nodes, block, aloud)?;
-    report::flush(out, block, waiting)
+    let waiting = last(out, errors, now, kinds, texts, nodes, block, aloud);
+    report::flush(out, block, waiting);
+    Ok(())
 }
 
 // Answers each line, in words where `aloud`.
@@ -430,12 +420,15 @@ fn listen(rt: &(impl Input + Print), errors: &impl Print, aloud: bool) -> Result
     )
 }
 
-// Does what the arguments ask.
+// Does what the arguments ask. A read that fails ends it; a write that fails is passed over.
 pub fn run(rt: &(impl Env + Input + Print), errors: &impl Print) -> Result<()> {
     let mut word = [0u8; 2];
     match rt.arg(1, &mut word) {
         Err(FillError::NotPresent) => listen(rt, errors, false),
-        Err(FillError::TooLong) => help::point(errors),
+        Err(FillError::TooLong) => {
+            help::point(errors);
+            Ok(())
+        }
         Ok(n) => {
             let letter = if n == 2 && word[0] == b'-' {
                 word[1]
@@ -444,8 +437,14 @@ pub fn run(rt: &(impl Env + Input + Print), errors: &impl Print) -> Result<()> {
             };
             match letter {
                 b'v' => listen(rt, errors, true),
-                b'h' => help::tell(rt),
-                _ => help::point(errors),
+                b'h' => {
+                    help::tell(rt);
+                    Ok(())
+                }
+                _ => {
+                    help::point(errors);
+                    Ok(())
+                }
             }
         }
     }

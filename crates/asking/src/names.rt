@@ -1,7 +1,6 @@
 // Names of kinds, join words and operators. A table of names has rows of equal width, filled up with dots. Each
 // function takes how many bytes of the block wait, and answers how many wait then.
 use report::{BLOCK, byte, bytes};
-use std::io::Result;
 
 // Kinds, as document 01 has them, from 0 on.
 const KINDS: [u8; 576] =
@@ -32,40 +31,30 @@ pub fn row(
     table: &[u8],
     start: usize,
     width: u8,
-) -> Result<usize> {
+) -> usize {
     let mut now = waiting;
     let mut i: u8 = 0;
     while i < width {
         let b = at(table, start.wrapping_add(i as usize));
         if b == b'.' {
-            return Ok(now);
+            return now;
         }
-        now = byte(out, block, now, b)?;
+        now = byte(out, block, now, b);
         i += 1;
     }
-    Ok(now)
+    now
 }
 
-pub fn kind(out: &impl Print, block: &mut [u8; BLOCK], waiting: usize, k: u32) -> Result<usize> {
+pub fn kind(out: &impl Print, block: &mut [u8; BLOCK], waiting: usize, k: u32) -> usize {
     row(out, block, waiting, &KINDS, k as usize * 8, 8)
 }
 
-pub fn join_word(
-    out: &impl Print,
-    block: &mut [u8; BLOCK],
-    waiting: usize,
-    text: u32,
-) -> Result<usize> {
+pub fn join_word(out: &impl Print, block: &mut [u8; BLOCK], waiting: usize, text: u32) -> usize {
     row(out, block, waiting, &WORDS, text as usize * 7, 7)
 }
 
 // A prefix or binary operator, by the detail of its record.
-pub fn operator(
-    out: &impl Print,
-    block: &mut [u8; BLOCK],
-    waiting: usize,
-    detail: u32,
-) -> Result<usize> {
+pub fn operator(out: &impl Print, block: &mut [u8; BLOCK], waiting: usize, detail: u32) -> usize {
     match detail {
         kinds::STAR..=kinds::GE => row(
             out,
@@ -78,7 +67,7 @@ pub fn operator(
         137 => bytes(out, block, waiting, b"IS NOT"),
         201..=203 => like(out, block, waiting, detail - 200),
         301..=303 => {
-            let not = bytes(out, block, waiting, b"NOT ")?;
+            let not = bytes(out, block, waiting, b"NOT ");
             like(out, block, not, detail - 300)
         }
         _ => kind(out, block, waiting, detail),
@@ -86,7 +75,7 @@ pub fn operator(
 }
 
 // The word of a LIKE_KW.
-pub fn like(out: &impl Print, block: &mut [u8; BLOCK], waiting: usize, text: u32) -> Result<usize> {
+pub fn like(out: &impl Print, block: &mut [u8; BLOCK], waiting: usize, text: u32) -> usize {
     match text {
         1 => bytes(out, block, waiting, b"LIKE"),
         2 => bytes(out, block, waiting, b"GLOB"),

@@ -3,7 +3,6 @@ use kinds::{JOIN_KW, LIKE_KW};
 use lines::Line;
 use reading::Reading;
 use report::{BLOCK, byte, bytes, number, wide};
-use std::io::Result;
 
 // The number at a place of a list, 0 beyond its end.
 fn at(list: &[u32], place: usize) -> u32 {
@@ -17,12 +16,12 @@ pub fn many(
     waiting: usize,
     count: usize,
     what: &[u8],
-) -> Result<usize> {
-    let counted = number(out, block, waiting, count as u64)?;
-    let parted = byte(out, block, counted, b' ')?;
-    let named = bytes(out, block, parted, what)?;
+) -> usize {
+    let counted = number(out, block, waiting, count as u64);
+    let parted = byte(out, block, counted, b' ');
+    let named = bytes(out, block, parted, what);
     if count == 1 {
-        return Ok(named);
+        return named;
     }
     byte(out, block, named, b's')
 }
@@ -35,9 +34,9 @@ pub fn refused<'a>(
     line: Line,
     kinds: &'a [u32],
     texts: &'a [u32],
-) -> Result<usize> {
-    let named = bytes(out, block, waiting, b"refusal ")?;
-    let said = number(out, block, named, wide(r.number))?;
+) -> usize {
+    let named = bytes(out, block, waiting, b"refusal ");
+    let said = number(out, block, named, wide(r.number));
     let n = r.number;
     match n {
         1 => lengths(out, block, said, line),
@@ -46,14 +45,14 @@ pub fn refused<'a>(
     }
 }
 
-fn lengths(out: &impl Print, block: &mut [u8; BLOCK], waiting: usize, line: Line) -> Result<usize> {
+fn lengths(out: &impl Print, block: &mut [u8; BLOCK], waiting: usize, line: Line) -> usize {
     if line.kinds == line.texts {
-        let said = bytes(out, block, waiting, b": input over 4,096, it has ")?;
+        let said = bytes(out, block, waiting, b": input over 4,096, it has ");
         return many(out, block, said, line.kinds, b"token");
     }
-    let said = bytes(out, block, waiting, b": list lengths differ, ")?;
-    let k = many(out, block, said, line.kinds, b"kind")?;
-    let and = bytes(out, block, k, b" and ")?;
+    let said = bytes(out, block, waiting, b": list lengths differ, ");
+    let k = many(out, block, said, line.kinds, b"kind");
+    let and = bytes(out, block, k, b" and ");
     many(out, block, and, line.texts, b"text number")
 }
 
@@ -64,13 +63,13 @@ pub fn missing(
     waiting: usize,
     n: u32,
     place: usize,
-) -> Result<usize> {
+) -> usize {
     if n == 4 {
-        let said = bytes(out, block, waiting, b": the command ends too soon, after ")?;
+        let said = bytes(out, block, waiting, b": the command ends too soon, after ");
         return many(out, block, said, place, b"token");
     }
     if n == 9 {
-        let said = bytes(out, block, waiting, b": the node table is too short for ")?;
+        let said = bytes(out, block, waiting, b": the node table is too short for ");
         return many(out, block, said, place, b"record");
     }
     let said = bytes(
@@ -78,7 +77,7 @@ pub fn missing(
         block,
         waiting,
         b": the writer's output is too short for ",
-    )?;
+    );
     many(out, block, said, place, b"token")
 }
 
@@ -91,10 +90,10 @@ fn token<'a>(
     place: usize,
     kinds: &'a [u32],
     texts: &'a [u32],
-) -> Result<usize> {
-    let named = bytes(out, block, waiting, b", token ")?;
-    let said = number(out, block, named, place as u64)?;
-    let begun = bytes(out, block, said, b": ")?;
+) -> usize {
+    let named = bytes(out, block, waiting, b", token ");
+    let said = number(out, block, named, place as u64);
+    let begun = bytes(out, block, said, b": ");
     match n {
         2 => unfit(out, block, begun, at(kinds, place), at(texts, place)),
         3 => misplaced(out, block, begun, at(kinds, place), place),
@@ -122,29 +121,23 @@ fn misplaced(
     waiting: usize,
     kind: u32,
     place: usize,
-) -> Result<usize> {
-    let named = crate::names::kind(out, block, waiting, kind)?;
+) -> usize {
+    let named = crate::names::kind(out, block, waiting, kind);
     if place == 0 {
         return bytes(out, block, named, b" can't begin a command");
     }
     bytes(out, block, named, b" can't follow")
 }
 
-fn unfit(
-    out: &impl Print,
-    block: &mut [u8; BLOCK],
-    waiting: usize,
-    kind: u32,
-    text: u32,
-) -> Result<usize> {
+fn unfit(out: &impl Print, block: &mut [u8; BLOCK], waiting: usize, kind: u32, text: u32) -> usize {
     match kind {
         JOIN_KW | LIKE_KW => {
-            let named = crate::names::kind(out, block, waiting, kind)?;
-            let said = bytes(out, block, named, b" can't have text number ")?;
+            let named = crate::names::kind(out, block, waiting, kind);
+            let said = bytes(out, block, named, b" can't have text number ");
             number(out, block, said, wide(text))
         }
         _ => {
-            let said = bytes(out, block, waiting, b"there is no kind ")?;
+            let said = bytes(out, block, waiting, b"there is no kind ");
             number(out, block, said, wide(kind))
         }
     }
@@ -159,7 +152,7 @@ fn join<'a>(
     place: usize,
     kinds: &'a [u32],
     texts: &'a [u32],
-) -> Result<usize> {
+) -> usize {
     let last = word(place, 1, kinds, texts);
     let middle = if last == 0 {
         0
@@ -222,7 +215,7 @@ fn clash(
     first: u32,
     middle: u32,
     last: u32,
-) -> Result<usize> {
+) -> usize {
     let o = outer(first, outer(middle, outer(last, 0)));
     let i = inner(first, inner(middle, inner(last, 0)));
     if o == 0 || i == 0 {
@@ -233,8 +226,8 @@ fn clash(
             b"OUTER goes only with LEFT, RIGHT or FULL",
         );
     }
-    let one = crate::names::join_word(out, block, waiting, o)?;
-    let and = bytes(out, block, one, b" and ")?;
-    let two = crate::names::join_word(out, block, and, i)?;
+    let one = crate::names::join_word(out, block, waiting, o);
+    let and = bytes(out, block, one, b" and ");
+    let two = crate::names::join_word(out, block, and, i);
     bytes(out, block, two, b" don't go together")
 }

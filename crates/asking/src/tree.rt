@@ -1,7 +1,6 @@
 // A reading drawn as a tree: a record a line, below the one whose child it is; absent ones are left out.
 use reading::WIDTH;
 use report::{BLOCK, byte, bytes};
-use std::io::Result;
 
 // As many records as the longest table holds.
 const RECORDS: usize = 16384;
@@ -87,26 +86,26 @@ fn seat_children(
     }
 }
 
-fn blanks(out: &impl Print, block: &mut [u8; BLOCK], waiting: usize, depth: u32) -> Result<usize> {
+fn blanks(out: &impl Print, block: &mut [u8; BLOCK], waiting: usize, depth: u32) -> usize {
     let mut at = waiting;
     let mut left = depth;
     while left > 0 {
-        let half = byte(out, block, at, b' ')?;
-        at = byte(out, block, half, b' ')?;
+        let half = byte(out, block, at, b' ');
+        at = byte(out, block, half, b' ');
         left -= 1;
     }
-    Ok(at)
+    at
 }
 
 // Left operands may stand in each other a thousand deep. From DEEP on the depth is told by its number, lest a
 // line grow with it.
-fn indent(out: &impl Print, block: &mut [u8; BLOCK], waiting: usize, depth: u32) -> Result<usize> {
+fn indent(out: &impl Print, block: &mut [u8; BLOCK], waiting: usize, depth: u32) -> usize {
     if depth < DEEP {
         return blanks(out, block, waiting, depth);
     }
-    let at = blanks(out, block, waiting, DEEP)?;
-    let opened = byte(out, block, at, b'(')?;
-    let told = report::number(out, block, opened, report::wide(depth))?;
+    let at = blanks(out, block, waiting, DEEP);
+    let opened = byte(out, block, at, b'(');
+    let told = report::number(out, block, opened, report::wide(depth));
     bytes(out, block, told, b") ")
 }
 
@@ -119,15 +118,15 @@ fn draw_one<'a>(
     record: u32,
     depths: &'a [u32; RECORDS],
     parts: &'a [u32; RECORDS],
-) -> Result<usize> {
+) -> usize {
     let code = number(nodes, record, CODE);
     if code == crate::labels::ABSENT {
-        return Ok(waiting);
+        return waiting;
     }
     let depth = get(depths, record);
-    let begun = indent(out, block, waiting, depth.wrapping_add(1))?;
-    let said = crate::labels::part_name(out, block, begun, get(parts, record))?;
-    let end = crate::labels::record(out, block, said, code, number(nodes, record, DETAIL))?;
+    let begun = indent(out, block, waiting, depth.wrapping_add(1));
+    let said = crate::labels::part_name(out, block, begun, get(parts, record));
+    let end = crate::labels::record(out, block, said, code, number(nodes, record, DETAIL));
     byte(out, block, end, b'\n')
 }
 
@@ -140,14 +139,14 @@ fn draw_all<'a>(
     depths: &'a [u32; RECORDS],
     parts: &'a [u32; RECORDS],
     order: &'a [u32; RECORDS],
-) -> Result<usize> {
+) -> usize {
     let mut at = waiting;
     let mut line = 0;
     while line < count {
-        at = draw_one(out, block, at, nodes, get(order, line), depths, parts)?;
+        at = draw_one(out, block, at, nodes, get(order, line), depths, parts);
         line += 1;
     }
-    Ok(at)
+    at
 }
 
 // So many records, of those that the table may hold.
@@ -165,7 +164,7 @@ pub fn draw(
     waiting: usize,
     nodes: &[u32],
     count: usize,
-) -> Result<usize> {
+) -> usize {
     let n = within(count);
     let mut depths = [0u32; RECORDS];
     let mut parts = [0u32; RECORDS];

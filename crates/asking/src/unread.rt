@@ -1,6 +1,5 @@
 // What is wrong with a line that has neither form, in words.
 use report::{BLOCK, byte, bytes, number};
-use std::io::Result;
 
 // The byte that did not fit, a line end where the line was cut short, and the byte before it.
 #[derive(Clone, Copy)]
@@ -10,7 +9,7 @@ pub struct Misfit {
 }
 
 // The byte as it is written, or by its number where it can't be.
-fn quoted(out: &impl Print, block: &mut [u8; BLOCK], waiting: usize, b: u8) -> Result<usize> {
+fn quoted(out: &impl Print, block: &mut [u8; BLOCK], waiting: usize, b: u8) -> usize {
     match b {
         b'!'..=b'~' => shown(out, block, waiting, b),
         b' ' => bytes(out, block, waiting, b"a blank"),
@@ -19,14 +18,14 @@ fn quoted(out: &impl Print, block: &mut [u8; BLOCK], waiting: usize, b: u8) -> R
     }
 }
 
-fn shown(out: &impl Print, block: &mut [u8; BLOCK], waiting: usize, b: u8) -> Result<usize> {
-    let opened = byte(out, block, waiting, b'\'')?;
-    let inside = byte(out, block, opened, b)?;
+fn shown(out: &impl Print, block: &mut [u8; BLOCK], waiting: usize, b: u8) -> usize {
+    let opened = byte(out, block, waiting, b'\'');
+    let inside = byte(out, block, opened, b);
     byte(out, block, inside, b'\'')
 }
 
-fn numbered(out: &impl Print, block: &mut [u8; BLOCK], waiting: usize, b: u8) -> Result<usize> {
-    let named = bytes(out, block, waiting, b"byte value ")?;
+fn numbered(out: &impl Print, block: &mut [u8; BLOCK], waiting: usize, b: u8) -> usize {
+    let named = bytes(out, block, waiting, b"byte value ");
     number(out, block, named, b as u64)
 }
 
@@ -43,7 +42,7 @@ pub fn reason(
     waiting: usize,
     m: Misfit,
     in_second_form: bool,
-) -> Result<usize> {
+) -> usize {
     let before = m.before;
     if is_digit(m.byte) {
         return digit(out, block, waiting, m, in_second_form);
@@ -73,8 +72,8 @@ fn missing(
     waiting: usize,
     b: u8,
     words: &[u8],
-) -> Result<usize> {
-    let shown = quoted(out, block, waiting, b)?;
+) -> usize {
+    let shown = quoted(out, block, waiting, b);
     bytes(out, block, shown, words)
 }
 
@@ -85,7 +84,7 @@ fn digit(
     waiting: usize,
     m: Misfit,
     in_second_form: bool,
-) -> Result<usize> {
+) -> usize {
     if is_digit(m.before) {
         return bytes(out, block, waiting, b"the number is too large");
     }
@@ -101,8 +100,8 @@ fn other(
     waiting: usize,
     b: u8,
     in_second_form: bool,
-) -> Result<usize> {
-    let shown = quoted(out, block, waiting, b)?;
+) -> usize {
+    let shown = quoted(out, block, waiting, b);
     if in_second_form {
         return bytes(
             out,

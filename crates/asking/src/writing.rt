@@ -4,7 +4,6 @@ use kinds::{COMMA, DOT, ID, INDEXED, JOIN_KW, LIKE_KW, LP, RP};
 use lines::Line;
 use reading::Writing;
 use report::{BLOCK, byte, bytes, number, wide};
-use std::io::Result;
 
 // The forms of an answer: in numbers after the records, or after those of the reader, or in words.
 pub const FULL: u8 = 0;
@@ -19,14 +18,8 @@ fn at(list: &[u32], place: usize) -> u32 {
 }
 
 // A text number, after a mark.
-fn text(
-    out: &impl Print,
-    block: &mut [u8; BLOCK],
-    waiting: usize,
-    mark: u8,
-    n: u32,
-) -> Result<usize> {
-    let marked = byte(out, block, waiting, mark)?;
+fn text(out: &impl Print, block: &mut [u8; BLOCK], waiting: usize, mark: u8, n: u32) -> usize {
+    let marked = byte(out, block, waiting, mark);
     number(out, block, marked, wide(n))
 }
 
@@ -36,22 +29,16 @@ fn in_numbers(
     waiting: usize,
     kind: u32,
     n: u32,
-) -> Result<usize> {
-    let told = number(out, block, waiting, wide(kind))?;
+) -> usize {
+    let told = number(out, block, waiting, wide(kind));
     if n == 0 {
-        return Ok(told);
+        return told;
     }
     text(out, block, told, b'.', n)
 }
 
 // An ID is its text number alone.
-fn in_words(
-    out: &impl Print,
-    block: &mut [u8; BLOCK],
-    waiting: usize,
-    kind: u32,
-    n: u32,
-) -> Result<usize> {
+fn in_words(out: &impl Print, block: &mut [u8; BLOCK], waiting: usize, kind: u32, n: u32) -> usize {
     match kind {
         ID => text(out, block, waiting, b'#', n),
         LP => byte(out, block, waiting, b'('),
@@ -72,18 +59,12 @@ fn has_text(kind: u32, n: u32) -> bool {
     kinds::reads_text(kind)
 }
 
-fn named(
-    out: &impl Print,
-    block: &mut [u8; BLOCK],
-    waiting: usize,
-    kind: u32,
-    n: u32,
-) -> Result<usize> {
-    let said = crate::names::operator(out, block, waiting, kind)?;
+fn named(out: &impl Print, block: &mut [u8; BLOCK], waiting: usize, kind: u32, n: u32) -> usize {
+    let said = crate::names::operator(out, block, waiting, kind);
     if !has_text(kind, n) {
-        return Ok(said);
+        return said;
     }
-    let parted = byte(out, block, said, b' ')?;
+    let parted = byte(out, block, said, b' ');
     text(out, block, parted, b'#', n)
 }
 
@@ -95,8 +76,8 @@ fn token(
     kind: u32,
     n: u32,
     aloud: bool,
-) -> Result<usize> {
-    let begun = byte(out, block, waiting, b' ')?;
+) -> usize {
+    let begun = byte(out, block, waiting, b' ');
     if aloud {
         return in_words(out, block, begun, kind, n);
     }
@@ -111,20 +92,20 @@ fn tokens<'a>(
     texts: &'a [u32],
     count: usize,
     aloud: bool,
-) -> Result<usize> {
+) -> usize {
     let mut now = waiting;
     let mut i = 0;
     while i < count {
-        now = token(out, block, now, at(kinds, i), at(texts, i), aloud)?;
+        now = token(out, block, now, at(kinds, i), at(texts, i), aloud);
         i += 1;
     }
-    Ok(now)
+    now
 }
 
 // Why there is no writing of a command that was read: its lists have too little room, or differ.
-fn none(out: &impl Print, block: &mut [u8; BLOCK], waiting: usize, w: Writing) -> Result<usize> {
-    let said = bytes(out, block, waiting, b"  no writing: refusal ")?;
-    let told = number(out, block, said, wide(w.number))?;
+fn none(out: &impl Print, block: &mut [u8; BLOCK], waiting: usize, w: Writing) -> usize {
+    let said = bytes(out, block, waiting, b"  no writing: refusal ");
+    let told = number(out, block, said, wide(w.number));
     if w.number == 1 {
         return bytes(out, block, told, b": the writer's outputs differ in length");
     }
@@ -139,19 +120,19 @@ fn form<'a>(
     kinds: &'a [u32],
     texts: &'a [u32],
     how: u8,
-) -> Result<usize> {
+) -> usize {
     if how == SHORT {
-        let named = bytes(out, block, waiting, b" W ")?;
+        let named = bytes(out, block, waiting, b" W ");
         return crate::two(out, block, named, w.number, w.place);
     }
     if how == FULL {
-        let parted = bytes(out, block, waiting, b" :")?;
+        let parted = bytes(out, block, waiting, b" :");
         return tokens(out, block, parted, kinds, texts, w.used, false);
     }
     if w.number > 0 {
         return none(out, block, waiting, w);
     }
-    let said = bytes(out, block, waiting, b"  writing:")?;
+    let said = bytes(out, block, waiting, b"  writing:");
     tokens(out, block, said, kinds, texts, w.used, true)
 }
 
@@ -165,14 +146,14 @@ pub fn tell<'a>(
     texts: &'a [u32],
     nodes: &mut [u32],
     how: u8,
-) -> Result<usize> {
+) -> usize {
     let mut out_kinds = [0u32; lines::TOKENS];
     let mut out_texts = [0u32; lines::TOKENS];
     let w = reading::written(line, kinds, texts, nodes, &mut out_kinds, &mut out_texts);
     if !w.kept {
-        let said = bytes(out, block, waiting, b" ! output changed beyond the writing")?;
+        let said = bytes(out, block, waiting, b" ! output changed beyond the writing");
         return byte(out, block, said, b'\n');
     }
-    let end = form(out, block, waiting, w, &out_kinds, &out_texts, how)?;
+    let end = form(out, block, waiting, w, &out_kinds, &out_texts, how);
     byte(out, block, end, b'\n')
 }

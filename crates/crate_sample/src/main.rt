@@ -205,13 +205,13 @@ fn complain(
     line: u64,
     block: &mut [u8; BLOCK],
     waiting: usize,
-) -> Result<usize> {
-    let named = bytes(out, block, waiting, b"wrong: line ")?;
-    let numbered = number(out, block, named, line)?;
-    let after = bytes(out, block, numbered, b": ")?;
-    let answered = number(out, block, after, r.number as u64)?;
-    let blank = byte(out, block, answered, b' ')?;
-    let placed = number(out, block, blank, r.place as u64)?;
+) -> usize {
+    let named = bytes(out, block, waiting, b"wrong: line ");
+    let numbered = number(out, block, named, line);
+    let after = bytes(out, block, numbered, b": ");
+    let answered = number(out, block, after, r.number as u64);
+    let blank = byte(out, block, answered, b' ');
+    let placed = number(out, block, blank, r.place as u64);
     byte(out, block, placed, b'\n')
 }
 
@@ -222,7 +222,7 @@ fn ended(
     before: Tally,
     nodes: &mut [u32],
     block: &mut [u8; BLOCK],
-) -> Result<Tally> {
+) -> Tally {
     let mut t = before;
     let r = case.reading;
     let said = mixed(mixed(t.digest, r.number as u64), r.place as u64);
@@ -233,11 +233,11 @@ fn ended(
         t.same = t.same.wrapping_add(1);
     }
     if is_right(case) {
-        return Ok(t);
+        return t;
     }
     t.wrong = t.wrong.wrapping_add(1);
-    t.waiting = complain(out, r, t.lines, block, t.waiting)?;
-    Ok(t)
+    t.waiting = complain(out, r, t.lines, block, t.waiting);
+    t
 }
 
 // A byte of the file, that is no line end.
@@ -272,20 +272,20 @@ fn one(
     nodes: &mut [u32],
     counts: &mut [u64; CLASSES],
     block: &mut [u8; BLOCK],
-) -> Result<Now> {
+) -> Now {
     let case = before.case;
     let tally = before.tally;
     if b == b'\n' {
         let last = told(case, b, nodes);
-        return Ok(Now {
+        return Now {
             case: opened(),
-            tally: ended(out, last, tally, nodes, block)?,
-        });
+            tally: ended(out, last, tally, nodes, block),
+        };
     }
-    Ok(Now {
+    Now {
         case: within_line(case, b, kinds, texts, nodes, counts),
         tally,
-    })
+    }
 }
 
 fn fed(
@@ -297,15 +297,15 @@ fn fed(
     nodes: &mut [u32],
     counts: &mut [u64; CLASSES],
     block: &mut [u8; BLOCK],
-) -> Result<Now> {
+) -> Now {
     let mut now = before;
     let mut i = 0;
     while i < input.len() {
         let b = input[i];
         i += 1;
-        now = one(out, now, b, kinds, texts, nodes, counts, block)?;
+        now = one(out, now, b, kinds, texts, nodes, counts, block);
     }
-    Ok(now)
+    now
 }
 
 fn closed(before: Now) -> Now {
@@ -327,11 +327,17 @@ fn some(
     block: &mut [u8; BLOCK],
 ) -> Result<Now> {
     let mut buffer = [0u8; 65536];
-    let n = input.read(&mut buffer)?;
+    let n = match input.read(&mut buffer) {
+        Ok(n) => n,
+        Err(e) => {
+            report::flush(out, block, before.tally.waiting);
+            return Err(e);
+        }
+    };
     if n == 0 {
         return Ok(closed(before));
     }
-    fed(
+    Ok(fed(
         out,
         &buffer[..n],
         before,
@@ -340,7 +346,7 @@ fn some(
         nodes,
         counts,
         block,
-    )
+    ))
 }
 
 fn begun() -> Now {
@@ -367,13 +373,13 @@ fn last(
     nodes: &mut [u32],
     counts: &mut [u64; CLASSES],
     block: &mut [u8; BLOCK],
-) -> Result<Tally> {
+) -> Tally {
     let case = now.case;
     if case.part == MARK {
-        return Ok(now.tally);
+        return now.tally;
     }
-    let end = one(out, now, b'\n', kinds, texts, nodes, counts, block)?;
-    Ok(end.tally)
+    let end = one(out, now, b'\n', kinds, texts, nodes, counts, block);
+    end.tally
 }
 
 // All lines of a file. A proved loop has to end, so it counts its turns, from a number that no run uses up.
@@ -392,7 +398,7 @@ fn all(
         now = some(out, input, now, kinds, texts, nodes, counts, block)?;
         turns -= 1;
     }
-    last(out, now, kinds, texts, nodes, counts, block)
+    Ok(last(out, now, kinds, texts, nodes, counts, block))
 }
 
 fn labelled(
@@ -401,20 +407,14 @@ fn labelled(
     waiting: usize,
     name: &[u8],
     n: u64,
-) -> Result<usize> {
-    let named = bytes(out, block, waiting, name)?;
+) -> usize {
+    let named = bytes(out, block, waiting, name);
     number(out, block, named, n)
 }
 
-fn classed(
-    out: &impl Print,
-    block: &mut [u8; BLOCK],
-    waiting: usize,
-    letter: u8,
-    n: u64,
-) -> Result<usize> {
-    let named = byte(out, block, waiting, letter)?;
-    let counted = labelled(out, block, named, b" ", n)?;
+fn classed(out: &impl Print, block: &mut [u8; BLOCK], waiting: usize, letter: u8, n: u64) -> usize {
+    let named = byte(out, block, waiting, letter);
+    let counted = labelled(out, block, named, b" ", n);
     byte(out, block, counted, b'\n')
 }
 
@@ -424,27 +424,22 @@ fn classes(
     counts: &[u64; CLASSES],
     block: &mut [u8; BLOCK],
     waiting: usize,
-) -> Result<usize> {
+) -> usize {
     let mut at = waiting;
     let mut i = 0;
     while i < CLASSES {
-        at = classed(out, block, at, LETTERS[i], counts[i])?;
+        at = classed(out, block, at, LETTERS[i], counts[i]);
         i += 1;
     }
-    Ok(at)
+    at
 }
 
-fn summed(
-    out: &impl Print,
-    t: Tally,
-    counts: &[u64; CLASSES],
-    block: &mut [u8; BLOCK],
-) -> Result<usize> {
-    let counted = labelled(out, block, t.waiting, b"lines ", t.lines)?;
-    let judged = labelled(out, block, counted, b", wrong ", t.wrong)?;
-    let alike = labelled(out, block, judged, b", same ", t.same)?;
-    let digested = labelled(out, block, alike, b", digest ", t.digest)?;
-    let at = byte(out, block, digested, b'\n')?;
+fn summed(out: &impl Print, t: Tally, counts: &[u64; CLASSES], block: &mut [u8; BLOCK]) -> usize {
+    let counted = labelled(out, block, t.waiting, b"lines ", t.lines);
+    let judged = labelled(out, block, counted, b", wrong ", t.wrong);
+    let alike = labelled(out, block, judged, b", same ", t.same);
+    let digested = labelled(out, block, alike, b", digest ", t.digest);
+    let at = byte(out, block, digested, b'\n');
     classes(out, counts, block, at)
 }
 
@@ -464,6 +459,7 @@ fn main(rt: HostRuntime) -> Result<()> {
         &mut counts,
         &mut block,
     )?;
-    let end = summed(&rt, t, &counts, &mut block)?;
-    report::flush(&rt, &block, end)
+    let end = summed(&rt, t, &counts, &mut block);
+    report::flush(&rt, &block, end);
+    Ok(())
 }

@@ -218,24 +218,18 @@ fn complain(
     line: u64,
     n: u32,
     place: usize,
-) -> Result<usize> {
-    let named = bytes(out, block, waiting, what)?;
-    let numbered = number(out, block, named, line)?;
-    let parted = bytes(out, block, numbered, b": ")?;
-    let answered = number(out, block, parted, n as u64)?;
-    let blank = byte(out, block, answered, b' ')?;
-    let placed = number(out, block, blank, place as u64)?;
+) -> usize {
+    let named = bytes(out, block, waiting, what);
+    let numbered = number(out, block, named, line);
+    let parted = bytes(out, block, numbered, b": ");
+    let answered = number(out, block, parted, n as u64);
+    let blank = byte(out, block, answered, b' ');
+    let placed = number(out, block, blank, place as u64);
     byte(out, block, placed, b'\n')
 }
 
 // What the reader's answer adds to the tally, at a line's end.
-fn judged(
-    out: &impl Print,
-    case: Case,
-    t: Tally,
-    nodes: &[u32],
-    block: &mut [u8; BLOCK],
-) -> Result<Tally> {
+fn judged(out: &impl Print, case: Case, t: Tally, nodes: &[u32], block: &mut [u8; BLOCK]) -> Tally {
     let r = case.reading;
     let mut now = t;
     now.lines = t.lines.wrapping_add(1);
@@ -251,9 +245,9 @@ fn judged(
             now.lines,
             r.number,
             r.place,
-        )?;
+        );
     }
-    Ok(now)
+    now
 }
 
 // What the writer's adds.
@@ -265,7 +259,7 @@ fn inked<'a>(
     out_kinds: &'a [u32],
     out_texts: &'a [u32],
     block: &mut [u8; BLOCK],
-) -> Result<Tally> {
+) -> Tally {
     let mut now = t;
     let said = mixed(mixed(t.ink, w.number as u64), w.place as u64);
     let halfway = report::digest(said, out_kinds, w.used);
@@ -283,9 +277,9 @@ fn inked<'a>(
             t.lines,
             w.number,
             w.place,
-        )?;
+        );
     }
-    Ok(now)
+    now
 }
 
 // Writes the command, over a table that is cleared first.
@@ -351,7 +345,7 @@ fn written<'a>(
     wanted_kinds: &'a [u32],
     wanted_texts: &'a [u32],
     block: &mut [u8; BLOCK],
-) -> Result<Tally> {
+) -> Tally {
     let r = case.reading;
     let line = case.line;
     let mut out_kinds = [0u32; lines::TOKENS];
@@ -393,13 +387,13 @@ fn one(
     wanted_kinds: &mut [u32],
     wanted_texts: &mut [u32],
     block: &mut [u8; BLOCK],
-) -> Result<Now> {
+) -> Now {
     let case = before.case;
     let tally = before.tally;
     if b == b'\n' {
         let last = checked(case, b, nodes);
-        let read = judged(out, last, tally, nodes, block)?;
-        return Ok(Now {
+        let read = judged(out, last, tally, nodes, block);
+        return Now {
             case: taking(lines::begun()),
             tally: written(
                 out,
@@ -411,13 +405,13 @@ fn one(
                 wanted_kinds,
                 wanted_texts,
                 block,
-            )?,
-        });
+            ),
+        };
     }
-    Ok(Now {
+    Now {
         case: within_line(case, b, kinds, texts, nodes, wanted_kinds, wanted_texts),
         tally,
-    })
+    }
 }
 
 fn fed(
@@ -430,7 +424,7 @@ fn fed(
     wanted_kinds: &mut [u32],
     wanted_texts: &mut [u32],
     block: &mut [u8; BLOCK],
-) -> Result<Now> {
+) -> Now {
     let mut now = before;
     let mut i = 0;
     while i < input.len() {
@@ -446,9 +440,9 @@ fn fed(
             wanted_kinds,
             wanted_texts,
             block,
-        )?;
+        );
     }
-    Ok(now)
+    now
 }
 
 fn closed(before: Now) -> Now {
@@ -471,11 +465,17 @@ fn some(
     block: &mut [u8; BLOCK],
 ) -> Result<Now> {
     let mut buffer = [0u8; 65536];
-    let n = input.read(&mut buffer)?;
+    let n = match input.read(&mut buffer) {
+        Ok(n) => n,
+        Err(e) => {
+            report::flush(out, block, before.tally.waiting);
+            return Err(e);
+        }
+    };
     if n == 0 {
         return Ok(closed(before));
     }
-    fed(
+    Ok(fed(
         out,
         &buffer[..n],
         before,
@@ -485,7 +485,7 @@ fn some(
         wanted_kinds,
         wanted_texts,
         block,
-    )
+    ))
 }
 
 fn begun(waiting: usize) -> Now {
@@ -515,11 +515,11 @@ fn last(
     wanted_kinds: &mut [u32],
     wanted_texts: &mut [u32],
     block: &mut [u8; BLOCK],
-) -> Result<Tally> {
+) -> Tally {
     let case = now.case;
     let line = case.line;
     if line.column == 0 {
-        return Ok(now.tally);
+        return now.tally;
     }
     let end = one(
         out,
@@ -531,8 +531,8 @@ fn last(
         wanted_kinds,
         wanted_texts,
         block,
-    )?;
-    Ok(end.tally)
+    );
+    end.tally
 }
 
 // All lines of a file. A proved loop has to end, so it counts its turns, from a number that no run uses up.
@@ -563,7 +563,7 @@ fn all(
         )?;
         turns -= 1;
     }
-    last(
+    Ok(last(
         out,
         now,
         kinds,
@@ -572,7 +572,7 @@ fn all(
         wanted_kinds,
         wanted_texts,
         block,
-    )
+    ))
 }
 
 fn labelled(
@@ -581,19 +581,19 @@ fn labelled(
     waiting: usize,
     name: &[u8],
     n: u64,
-) -> Result<usize> {
-    let named = bytes(out, block, waiting, name)?;
+) -> usize {
+    let named = bytes(out, block, waiting, name);
     number(out, block, named, n)
 }
 
-fn summed(out: &impl Print, t: Tally, path: &[u8], block: &mut [u8; BLOCK]) -> Result<usize> {
-    let named = bytes(out, block, t.waiting, path)?;
-    let counted = labelled(out, block, named, b": lines ", t.lines)?;
-    let judged = labelled(out, block, counted, b", wrong ", t.wrong)?;
-    let digested = labelled(out, block, judged, b", digest ", t.digest)?;
-    let written = labelled(out, block, digested, b"; written ", t.written)?;
-    let held = labelled(out, block, written, b", wrong ", t.unlike)?;
-    let inked = labelled(out, block, held, b", digest ", t.ink)?;
+fn summed(out: &impl Print, t: Tally, path: &[u8], block: &mut [u8; BLOCK]) -> usize {
+    let named = bytes(out, block, t.waiting, path);
+    let counted = labelled(out, block, named, b": lines ", t.lines);
+    let judged = labelled(out, block, counted, b", wrong ", t.wrong);
+    let digested = labelled(out, block, judged, b", digest ", t.digest);
+    let written = labelled(out, block, digested, b"; written ", t.written);
+    let held = labelled(out, block, written, b", wrong ", t.unlike);
+    let inked = labelled(out, block, held, b", digest ", t.ink);
     byte(out, block, inked, b'\n')
 }
 
@@ -608,7 +608,13 @@ fn file(
     block: &mut [u8; BLOCK],
     waiting: usize,
 ) -> Result<usize> {
-    let mut input = fs::open(rt, path)?;
+    let mut input = match fs::open(rt, path) {
+        Ok(it) => it,
+        Err(e) => {
+            report::flush(rt, block, waiting);
+            return Err(e);
+        }
+    };
     let t = all(
         rt,
         &mut input,
@@ -620,7 +626,7 @@ fn file(
         block,
         waiting,
     )?;
-    summed(rt, t, path.as_bytes(), block)
+    Ok(summed(rt, t, path.as_bytes(), block))
 }
 
 fn main(rt: HostRuntime) -> Result<()> {
@@ -652,5 +658,6 @@ fn main(rt: HostRuntime) -> Result<()> {
         &mut block,
         one,
     )?;
-    report::flush(&rt, &block, two)
+    report::flush(&rt, &block, two);
+    Ok(())
 }

@@ -1,36 +1,38 @@
--- What a turn adds to a block: one byte more of a list.
+-- What a turn adds to a block: the bytes so far, gone on with those that are left, are all.
 -- Assumes nothing.
-use Rattle.std.proofs.Common.{ℕ, zero, suc, ◌+◌, ◌≤◌, ◌<◌, ◌≡◌, refl, sym, List, [], ◌∷◌, length, get_or, take, add-one, arith}
-use Rattle.report.specs.Blocks.{place_in, block_with, waiting_after, block_after}
+use Prim.Native.Nat.{ℕ, ◌+◌, ◌≤◌, ◌<◌}
+use mathlib.Core.Path.{◌≡◌, sym, ap, ◌∙◌}
+use mathlib.Core.List.{List, []}
+use native.Mathlib.Numerals.{add-one}
+use native.Mathlib.Omega.{arith}
+use lib.ListN.{length, get_or, drop}
+use lib.Seq.{drop-cons, drop-length}
+use Rattle.report.specs.Blocks.{place_in, block_with, waiting_after, block_after, Shows}
+use Rattle.io.specs.Digits.{last_digits, IsDigitCount}
 
--- what waits once a byte more of a list is added, and the block then
-pub waits_more : (waiting : ℕ) (s : List ℕ) (i : ℕ) → i < length s
-    → waiting_after waiting (take (suc i) s) ≡ place_in (waiting_after waiting (take i s)) + 1
-waits_more waiting [] i below = omega arith
-waits_more waiting (b ∷ bs) zero below = refl
-waits_more waiting (b ∷ bs) (suc i) below = waits_more (place_in waiting + 1) bs i (omega arith)
+-- what waits, and the block, once the bytes from i on are added: as once all of s are, to a block of their own
+pub record GoesOn (block₀ : List ℕ) (waiting : ℕ) (s block : List ℕ) (now i : ℕ) : Type 0 where
+  pub waits : waiting_after now (drop i s) ≡ waiting_after waiting s
+  pub holds : block_after block now (drop i s) ≡ block_after block₀ waiting s
 
-pub holds_more : (block : List ℕ) (waiting : ℕ) (s : List ℕ) (i : ℕ) → i < length s
-    → block_after block waiting (take (suc i) s) ≡ block_with (block_after block waiting (take i s)) (waiting_after waiting (take i s)) (get_or s i 0)
-holds_more block waiting [] i below = absurd (omega arith)
-holds_more block waiting (b ∷ bs) zero below = refl
-holds_more block waiting (b ∷ bs) (suc i) below = holds_more (block_with block waiting b) (place_in waiting + 1) bs i (omega arith)
-
--- what waits, and the block, once the first i bytes of a list are added to a block of their own
-pub record Taken (block₀ : List ℕ) (waiting : ℕ) (s block : List ℕ) (now i : ℕ) : Type 0 where
-  pub within : i ≤ length s
-  pub waits : now ≡ waiting_after waiting (take i s)
-  pub holds : block ≡ block_after block₀ waiting (take i s)
-
-pub none_taken : (block : List ℕ) (waiting : ℕ) (s : List ℕ) → Taken block waiting s block waiting 0
-none_taken block waiting s = record { within = omega arith; waits = refl; holds = refl }
-
-pub one_taken : {block₀ : List ℕ} {waiting : ℕ} {s block block' : List ℕ} {now i now' : ℕ} → i < length s
+pub goes_on : {block₀ : List ℕ} {waiting : ℕ} {s block block' : List ℕ} {now i now' : ℕ} → i < length s
     → now' ≡ place_in now + 1 → block' ≡ block_with block now (get_or s i 0)
-    → Taken block₀ waiting s block now i → Taken block₀ waiting s block' now' (i + 1)
-one_taken {block₀} {waiting} {s} {block} {block'} {now} {i} {now'} below e f so_far =
+    → GoesOn block₀ waiting s block now i → GoesOn block₀ waiting s block' now' (i + 1)
+goes_on {s = s} {block} {block'} {now} {i} {now'} below e f so_far =
     record {
-      within = omega arith;
-      waits = rw (add-one, e, so_far.waits) (sym (waits_more waiting s i below));
-      holds = rw (add-one, f, so_far.waits, so_far.holds) (sym (holds_more block₀ waiting s i below));
+      waits = rw (add-one, e) (sym (ap (waiting_after now) (drop-cons s i 0 below)) ∙ so_far.waits);
+      holds = rw (add-one, e, f) (sym (ap (block_after block now) (drop-cons s i 0 below)) ∙ so_far.holds);
     }
+
+pub gone : {block₀ : List ℕ} {waiting : ℕ} {s block : List ℕ} {now i : ℕ} → i ≤ length s → length s ≤ i
+    → GoesOn block₀ waiting s block now i → (now ≡ waiting_after waiting s) × (block ≡ block_after block₀ waiting s)
+gone {s = s} {block} {now} {i} below reached so_far =
+    let none : drop i s ≡ [] =
+    let here : i ≡ length s = omega arith in ap (λ (n : ℕ). drop n s) here ∙ drop-length s in
+    (sym (ap (waiting_after now) none) ∙ so_far.waits, sym (ap (block_after block now) none) ∙ so_far.holds)
+
+-- the bytes that a number has as text are its digits
+pub shown : {block : List ℕ} {waiting n waiting' count : ℕ} {block' text : List ℕ} → IsDigitCount 10 1 n count → text ≡ last_digits 10 count n
+    → waiting' ≡ waiting_after waiting text → block' ≡ block_after block waiting text → Shows block waiting n waiting' block'
+shown {block} {waiting} {count = count} fewest e w b =
+    record { count = count; fewest = fewest; waits = w ∙ ap (waiting_after waiting) e; holds = b ∙ ap (block_after block waiting) e }

@@ -1,5 +1,5 @@
 -- A block of bytes that wait to be written: a full one is written, and begun anew.
-use Rattle.std.specs.Prelude.{ℕ, ◌+◌, ◌<◌, ◌≤◌, cond, List, [], ◌∷◌, ◌≡◌, ltb, set, length, take}
+use Rattle.std.specs.Prelude.{ℕ, ◌+◌, cond, List, [], ◌∷◌, ◌≡◌, ltb, set}
 use Rattle.io.specs.Digits.{last_digits, IsDigitCount}
 
 -- the place of a byte in the block when `waiting` bytes wait
@@ -26,16 +26,3 @@ pub record Shows (block : List ℕ) (waiting n waiting' : ℕ) (block' : List �
   pub fewest : IsDigitCount 10 1 n count
   pub waits : waiting' ≡ waiting_after waiting (last_digits 10 count n)
   pub holds : block' ≡ block_after block waiting (last_digits 10 count n)
-
--- what is left in the block where a write failed at one of the bytes of a list: those before it, which fill the block
-pub record Stopped (block : List ℕ) (waiting : ℕ) (s block' : List ℕ) : Type 0 where
-  pub count : ℕ
-  pub within : count < length s
-  pub full : 65536 ≤ waiting_after waiting (take count s)
-  pub holds : block' ≡ block_after block waiting (take count s)
-
--- the same at one of the decimal digits of a number
-pub record StopsShowing (block : List ℕ) (waiting n : ℕ) (block' : List ℕ) : Type 0 where
-  pub digits : ℕ
-  pub fewest : IsDigitCount 10 1 n digits
-  pub stops : Stopped block waiting (last_digits 10 digits n) block'
