@@ -4,9 +4,9 @@
 set -e
 H=$(cd "$(dirname "$0")" && pwd); R=$(dirname "$H")
 C=$(cd "${1:-$R/crates}" && pwd); T=${2:-$R/target/bench}; mkdir -p "$T/cap"; T=$(cd "$T" && pwd)
-(cd "$C/firmware" && rt lib > "$T/cap/log" 2>&1) || { cat "$T/cap/log"; exit 1; }
+(cd "$C/firmware_c" && rt lib > "$T/cap/log" 2>&1) || { cat "$T/cap/log"; exit 1; }
 gcc -O2 -I"$R/include" -c "$H/calls.c" -o "$T/cap/calls.o"
-ld -r -o "$T/cap/both.o" "$T/cap/calls.o" --whole-archive "$C/firmware/out/libfirmware.a"
+ld -r -o "$T/cap/both.o" "$T/cap/calls.o" --whole-archive "$C/firmware_c/out/libfirmware_c.a"
 gcc -O1 -g -c "$H/driver.c" -o "$T/cap/driver.o"
 gcc -o "$T/drive" "$T/cap/driver.o" "$T/cap/both.o" -Wl,--gc-sections
 # the code as frames.py reads it

@@ -19,9 +19,9 @@ if [ "$(uname -m)" != x86_64 ] || ! command -v "$cc" >/dev/null; then
     echo "examples: not run: they need an x86-64 machine and a C compiler ($cc)"
     exit 0
 fi
-(cd crates/firmware && rt lib)
+tools/staticlib
 mkdir -p "$out"
-"$cc" -std=c99 -pedantic -Wall -Wextra -Werror -O2 -Iinclude -o "$out/ask" examples/ask.c crates/firmware/out/libfirmware.a
+"$cc" -std=c99 -pedantic -Wall -Wextra -Werror -O2 -Iinclude -o "$out/ask" examples/ask.c target/staticlib/libfirmware.a
 if command -v c++ >/dev/null; then
     echo '#include "cjarvint.h"' | c++ -Wall -Wextra -Werror -Iinclude -fsyntax-only -x c++ -
 fi

@@ -1,7 +1,7 @@
 /*
  * Cjarvint, a proved reader of SQL queries, for C99 and C++.
  *
- * `rt lib` in crates/firmware proves the two functions below and writes its out/libfirmware.a, which has them and all they
+ * `tools/staticlib` proves the two functions below and writes target/staticlib/libfirmware.a, which has them and all they
  * need: no heap, no C library, no state between calls. Link it beside your program (examples/run.sh does).
  *
  * What each call answers is document 01, docs/01-scope.md. Whatever the lists hold, a call ends, answers with exactly the number and

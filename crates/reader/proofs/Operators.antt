@@ -44,6 +44,14 @@ without {made = made} {N = N} {N' = N'} {r = r} at X n l = subst (λ z. Later (�
     place = omega arith
 
 -- no NOT, and none of IN, BETWEEN, LIKE_KW
+-- from what the code knows of NOT, and of the word that it then looks at
+pub way_of : {io : Lists} {kind not word : ℕ} (at : ℕ) → ((kind ≡ 36) × (not ≡ 1)) ⊎ ((kind ≡ 36 → ⊥) × (not ≡ 0))
+    → ((kind ≡ 36) × Seen io (at + 1) word) ⊎ ((kind ≡ 36 → ⊥) × (word ≡ kind)) → Way io at kind not word
+way_of at (inl (e, n)) (inl (f, v)) = inl (e, n, v)
+way_of at (inl (e, n)) (inr (f, v)) = absurd (f e)
+way_of at (inr (d, n)) (inl (f, v)) = absurd (d f)
+way_of at (inr (d, n)) (inr (f, v)) = inr (d, n, v)
+
 other : {io : Lists} {kind not word : ℕ} (at : ℕ) → 36 ≤ kind → Way io at kind not word → (not ≡ 1 → ⊥) → (word ≡ 38 → ⊥) → (word ≡ 39 → ⊥) → (word ≡ 40 → ⊥)
     → (kind ≡ 36 → ⊥) × (not ≡ 0) × (kind ≡ 38 → ⊥) × (kind ≡ 39 → ⊥) × (kind ≡ 40 → ⊥)
 other at h (inl (e, n, v)) o i b k = absurd (o n)

@@ -1,3 +1,5 @@
+-- The reader's functions that call each other, one cycle: each promises its bounds and its walk (specs/Laying.antt), made from its callees'
+-- by the laws of proofs/Laying.antt. Function by function; a goal that has no answer here the check proves by itself. Assumes nothing.
 use Rattle.reader.proofs.Steps.{further, refused, ended, got_in, passed_on, opened, opening, opens_refused, one_on, same_answer, null_before, seen_as, opens_in}
 use native.Mathlib.Omega.{arith}
 use Prim.Native.Nat.{◌+◌, ◌<◌, ◌≤◌}
@@ -19,13 +21,14 @@ use lib.ListN.{length, get_or}
 use Rattle.grammar.specs.Reading.{choose}
 use Rattle.kinds.specs.Classes.{literal_code, heads_call}
 use Rattle.reader.proofs.TwoLists.{like_text}
-use Rattle.reader.proofs.Operators.{Way, op_binary, op_inside, op_between, op_like, op_null, op_is, op_collate, op_postfix}
+use Rattle.reader.proofs.Operators.{Way, way_of, op_binary, op_inside, op_between, op_like, op_null, op_is, op_collate, op_postfix}
 use Rattle.kinds.specs.Strength.{prefix_of}
 use Rattle.reader.proofs.Tables.{strength_is}
 use Rattle.kinds.proofs.Small.{strength_small, prefix_small}
 use Rattle.reader.proofs.+walk.Goals as goal
-use Rattle.reader.proofs.+walk.Goals.{among-in_default-via-else-kind-lt52+else-kind-lt54, among-in_default-via-then-kind-lt52, call-else-kind-eq-DISTINCT, call-then-kind-eq-DISTINCT, ex-in-1-to-11, ex-in_default, ex-in_default-via-else-kind-lt1+else-kind-lt12, ex-in_default-via-then-kind-lt1, leaf-else-next-eq-LP, leaf-then-next-eq-LP+else-kind-ne-INDEXED, op-else-kind-eq-NOT, op-else-kind-eq-NOT-2, op-else-peek-eq-NOT, op-then-kind-eq-NOT, op-then-kind-eq-NOT-2, op-then-peek-eq-NOT, operand-in-27-1, operand-in_default+else-kind-lt18+then-kind-lt20, operand-in_default-via-else-kind-lt18+else-kind-lt20, operand-in_default-via-then-kind-lt18, ops-else-k-eq0+else-k-s+then-left-k, ops-else-k-eq0+then-k-s, ops-then-k-eq0, paren-in_default-via-else-kind-lt52+else-kind-lt54, paren-in_default-via-then-kind-lt52, parts-in_default-via-else-kind-lt60+else-kind-lt62, parts-in_default-via-then-kind-lt60, row-else-width-gt0, row-then-width-gt0+else-n-width, select-else-detail-gt0, select-in-54, select-in-55, select-in_default, select-then-detail-gt0, sign-else-kind-eq-NOT, sign-then-kind-eq-NOT+else-asked-gt-NOT_STANDS}
+use Rattle.reader.proofs.+walk.Goals.{call-else-kind-eq-DISTINCT, call-then-kind-eq-DISTINCT, ex-in-1-to-11, ex-in_default, ex-in_default-via-else-kind-lt1+else-kind-lt12, ex-in_default-via-then-kind-lt1, leaf-else-next-eq-LP, leaf-then-next-eq-LP+else-kind-ne-INDEXED, op-else-kind-eq-NOT, op-else-kind-eq-NOT-2, op-else-peek-eq-NOT, op-then-kind-eq-NOT, op-then-kind-eq-NOT-2, op-then-peek-eq-NOT, operand-in-27-1, operand-in_default+else-kind-lt18+then-kind-lt20, ops-else-k-eq0+else-k-s+then-left-k, ops-else-k-eq0+then-k-s, ops-then-k-eq0, row-else-width-gt0, row-then-width-gt0+else-n-width, select-else-detail-gt0, select-in-54, select-in-55, select-in_default, select-then-detail-gt0, sign-else-kind-eq-NOT, sign-then-kind-eq-NOT+else-asked-gt-NOT_STANDS}
 
+-- ── after ──
 pub after-wrong-requires : goal.after-wrong-requires
 after-wrong-requires t c = omega arith
 
@@ -43,6 +46,7 @@ pub after-returns : goal.after-returns
 unfolding expr_w
 after-returns t c = (further c.expr.ensures.0 (omega arith), λ s. record { does = λ a p. next ((c.expr.ensures.1 s).does a p) (λ f h. took _ _ _ (is c.peek-kind.ensures c.if-kind-word.false) (h)) })
 
+-- ── among ──
 pub among-wrong-requires : goal.among-wrong-requires
 among-wrong-requires t c = omega arith
 
@@ -89,7 +93,7 @@ among-list-l-requires t c = omega arith
 
 pub among-returns-in_default-l : goal.among-returns-in_default-l
 unfolding expr_w both
-among-returns-in_default-l t c = (passed_on c.list-l.ensures.0 c.in_default-l.is, λ s pre b. record { does = λ a p. next (c.list-l.ensures.1.does a (c.asking-in_default.ensures.3.packs a s p)) (λ f h. took _ _ _ (is c.peek-lp.ensures c.if-lp-ne-LP.false) (left _ _ _ (by_kind (λ z. both (leb 52 z) (leb z 53)) c.peek-kind.ensures (elim c.in_default.branch [ among-in_default-via-then-kind-lt52 w ↦ between_out 52 53 c.peek-kind.result (λ z. omega (arith, z)) | among-in_default-via-else-kind-lt52+else-kind-lt54 w ↦ between_out 52 53 c.peek-kind.result (λ z. omega (arith, z)) ])) (left _ _ _ (isn't c.peek-kind.ensures c.in_default-1.rest.1) (halts _ _ h c.in_default-l.is)))) })
+among-returns-in_default-l t c = (passed_on c.list-l.ensures.0 c.in_default-l.is, λ s pre b. record { does = λ a p. next (c.list-l.ensures.1.does a (c.asking-in_default.ensures.3.packs a s p)) (λ f h. took _ _ _ (is c.peek-lp.ensures c.if-lp-ne-LP.false) (left _ _ _ (by_kind (λ z. both (leb 52 z) (leb z 53)) c.peek-kind.ensures (between_out 52 53 c.peek-kind.result (λ z. omega (arith, z)))) (left _ _ _ (isn't c.peek-kind.ensures c.in_default-1.rest.1) (halts _ _ h c.in_default-l.is)))) })
 
 pub among-overflow_cast-n_d : goal.among-overflow_cast-n_d
 among-overflow_cast-n_d t c = omega (arith, got_in c.list-l.ensures.0 c.in-Got-l.is, c.requires, c.peek-kind.ensures, c.if-lp-ne-LP.false, c.peek-lp.ensures)
@@ -116,8 +120,9 @@ among-returns-in-Got t c = (further c.ended-in-52.ensures.0 (omega (arith, got_i
 
 pub among-returns-in-Got-l : goal.among-returns-in-Got-l
 unfolding expr_w both
-among-returns-in-Got-l t c = (further c.ended-in_default.ensures.0 (omega (arith, got_in c.list-l.ensures.0 c.in-Got-l.is, c.requires, c.emit-m-in_default.ensures.0, c.peek-kind.ensures, c.if-lp-ne-LP.false, c.peek-lp.ensures)), λ s pre b. record { does = λ a p. next (c.list-l.ensures.1.does a (c.asking-in_default.ensures.3.packs a s p)) (λ f h. took _ _ _ (is c.peek-lp.ensures c.if-lp-ne-LP.false) (left _ _ _ (by_kind (λ z. both (leb 52 z) (leb z 53)) c.peek-kind.ensures (elim c.in_default.branch [ among-in_default-via-then-kind-lt52 w ↦ between_out 52 53 c.peek-kind.result (λ z. omega (arith, z)) | among-in_default-via-else-kind-lt52+else-kind-lt54 w ↦ between_out 52 53 c.peek-kind.result (λ z. omega (arith, z)) ])) (left _ _ _ (isn't c.peek-kind.ensures c.in_default-1.rest.1) (goes _ _ h c.in-Got-l.is (λ rs F. c.ended-in_default.ensures.1 pre _ _ _ b (topped F c.emit-m-in_default.ensures.1)))))) })
+among-returns-in-Got-l t c = (further c.ended-in_default.ensures.0 (omega (arith, got_in c.list-l.ensures.0 c.in-Got-l.is, c.requires, c.emit-m-in_default.ensures.0, c.peek-kind.ensures, c.if-lp-ne-LP.false, c.peek-lp.ensures)), λ s pre b. record { does = λ a p. next (c.list-l.ensures.1.does a (c.asking-in_default.ensures.3.packs a s p)) (λ f h. took _ _ _ (is c.peek-lp.ensures c.if-lp-ne-LP.false) (left _ _ _ (by_kind (λ z. both (leb 52 z) (leb z 53)) c.peek-kind.ensures (between_out 52 53 c.peek-kind.result (λ z. omega (arith, z)))) (left _ _ _ (isn't c.peek-kind.ensures c.in_default-1.rest.1) (goes _ _ h c.in-Got-l.is (λ rs F. c.ended-in_default.ensures.1 pre _ _ _ b (topped F c.emit-m-in_default.ensures.1)))))) })
 
+-- ── binary ──
 pub binary-expr-r-requires : goal.binary-expr-r-requires
 binary-expr-r-requires t c = omega arith
 
@@ -138,6 +143,7 @@ pub binary-returns : goal.binary-returns
 unfolding expr_w
 binary-returns t c = (ended c.got.ensures (omega (arith, got_in c.expr-r.ensures.0 c.in-Got.is, c.requires, c.emit-m.ensures.0)), λ s pre b. record { does = λ a p. next ((c.expr-r.ensures.1 s).does a p) (λ f h. goes _ _ h c.in-Got.is (λ rs F. laid c.got.ensures refl (capped _ pre b F c.emit-m.ensures.1))) })
 
+-- ── body ──
 pub body-overflow_cast-result : goal.body-overflow_cast-result
 body-overflow_cast-result t c = omega arith
 
@@ -191,6 +197,7 @@ pub body-returns : goal.body-returns
 unfolding expr_w
 body-returns t c = (refused c.wrong.ensures.0 (omega arith), opens_refused c.wrong.ensures.0, record { does = λ a p. at_once (λ f. left _ _ _ (isn't c.peek-kind.ensures c.if-kind-eq-SELECT.false) (left _ _ _ (isn't c.peek-kind.ensures c.if-kind-eq-VALUES.false) (misfit c.peek-kind.ensures c.wrong.ensures.1))) })
 
+-- ── call ──
 pub call-bare-requires : goal.call-bare-requires
 call-bare-requires t c = omega arith
 
@@ -199,10 +206,10 @@ unfolding expr_w
 call-returns-then-is_bare t c = (further c.bare.ensures.0 (omega arith), record { does = λ a p. at_once (λ f. by_walk (two_ways _ _ _ _ _ _ (ap (λ z. eqb z STAR) (sym c.peek-kind.ensures.is)) (bare_either _ (by_kind is_bare c.peek-kind.ensures (sym c.is_bare.ensures ∙ c.if-is_bare.true)))) c.bare.ensures.1) })
 
 pub call-overflow_add-at : goal.call-overflow_add-at
-call-overflow_add-at t c = let d : (c.if-kind-eq-DISTINCT.distinct ≤ 1) × (c.if-kind-eq-DISTINCT.distinct ≤ c.peek-kind.result) = elim c.if-kind-eq-DISTINCT.branch [ call-then-kind-eq-DISTINCT w ↦ omega arith | call-else-kind-eq-DISTINCT w ↦ omega arith ] in omega (arith)
+call-overflow_add-at t c = let d : (c.if-kind-eq-DISTINCT.distinct ≤ 1) × (c.if-kind-eq-DISTINCT.distinct ≤ c.peek-kind.result) = omega arith in omega (arith)
 
 pub call-list-r-requires : goal.call-list-r-requires
-call-list-r-requires t c = let d : (c.if-kind-eq-DISTINCT.distinct ≤ 1) × (c.if-kind-eq-DISTINCT.distinct ≤ c.peek-kind.result) = elim c.if-kind-eq-DISTINCT.branch [ call-then-kind-eq-DISTINCT w ↦ omega arith | call-else-kind-eq-DISTINCT w ↦ omega arith ] in omega (arith)
+call-list-r-requires t c = let d : (c.if-kind-eq-DISTINCT.distinct ≤ 1) × (c.if-kind-eq-DISTINCT.distinct ≤ c.peek-kind.result) = omega arith in omega (arith)
 
 pub call-returns-in_default : goal.call-returns-in_default
 unfolding expr_w
@@ -218,6 +225,7 @@ pub call-returns : goal.call-returns
 unfolding expr_w
 call-returns t c = (further c.called.ensures.0 (omega (arith, got_in c.list-r.ensures.0 c.in-Got.is, c.requires, c.peek-kind.ensures)), record { does = λ a p. next (c.list-r.ensures.1.does a p) (λ f h. left _ _ _ (bare_neither _ (by_kind is_bare c.peek-kind.ensures (sym c.is_bare.ensures ∙ c.if-is_bare.false))).0 (left _ _ _ (bare_neither _ (by_kind is_bare c.peek-kind.ensures (sym c.is_bare.ensures ∙ c.if-is_bare.false))).1 (by_walk (distinct_walk (kinds_of c.args.io.now) (texts_of c.args.io.now) f c.args.at c.if-kind-eq-DISTINCT.distinct a (elim c.if-kind-eq-DISTINCT.branch [ call-then-kind-eq-DISTINCT w ↦ inl (is c.peek-kind.ensures w.if-kind-eq-DISTINCT.true, w.distinct-is) | call-else-kind-eq-DISTINCT w ↦ inr (isn't c.peek-kind.ensures w.if-kind-eq-DISTINCT.false, w.distinct-is) ])) (goes _ _ h c.in-Got.is (λ rs F. c.called.ensures.1 _ rs F))))) })
 
+-- ── case ──
 pub case-cased-b-requires : goal.case-cased-b-requires
 case-cased-b-requires t c = omega arith
 
@@ -268,6 +276,7 @@ pub case-returns : goal.case-returns
 unfolding expr_w
 case-returns t c = (ended c.got.ensures (omega (arith, got_in c.clause-e.ensures.0 c.in-Got-e.is, got_in c.when-w.ensures.0 c.in-Got-w.is, got_in c.cased-b.ensures.0 c.in-Got.is, c.requires, c.emit-m.ensures.0, c.if-end-ne-END.false, c.peek-end.ensures)), record { does = λ a p. next (c.cased-b.ensures.1.does a p also c.when-w.ensures.1.does a p also c.clause-e.ensures.1.does a p) (λ f h. goes _ _ h.0 c.in-Got.is (λ rs F. goes _ _ h.1.0 c.in-Got-w.is (λ qs G. goes _ _ h.1.1 c.in-Got-e.is (λ ps H. took _ _ _ (is c.peek-end.ensures c.if-end-ne-END.false) (laid c.got.ensures refl (topped (F then G then H) c.emit-m.ensures.1)))))) })
 
+-- ── cased ──
 pub cased-absent-m-requires : goal.cased-absent-m-requires
 cased-absent-m-requires t c = omega arith
 
@@ -282,6 +291,7 @@ pub cased-returns : goal.cased-returns
 unfolding expr_w absences
 cased-returns t c = (further c.expr.ensures.0 (omega arith), record { does = λ a p. next ((c.expr.ensures.1 1).does a p) (λ f h. left _ _ _ (isn't c.peek-kind.ensures c.if-kind-eq-WHEN.false) (h)) })
 
+-- ── cast ──
 pub cast-after-e-requires : goal.cast-after-e-requires
 cast-after-e-requires t c = omega arith
 
@@ -313,6 +323,7 @@ pub cast-returns : goal.cast-returns
 unfolding expr_w
 cast-returns t c = (further c.close.ensures.0 (omega (arith, got_in c.name-n.ensures.0 c.in-Got-n.is, one_on c.name-n.ensures.1 c.in-Got-n.is, got_in c.after-e.ensures.0 c.in-Got.is, c.requires, c.if-kind-ne-AS.false, c.peek-kind.ensures)), record { does = λ a p. next ((c.after-e.ensures.1 1).does a p) (λ f h. goes _ _ h c.in-Got.is (λ rs F. took _ _ _ (is c.peek-kind.ensures c.if-kind-ne-AS.false) (goes _ _ c.name-n.ensures.2 c.in-Got-n.is (λ qs G. behind _ _ (F then G) (c.close.ensures.1 (length (rs ++ qs)) (F then G).counted))))) })
 
+-- ── clause ──
 pub clause-overflow_add-at : goal.clause-overflow_add-at
 clause-overflow_add-at t c = omega arith
 
@@ -330,6 +341,7 @@ pub clause-returns : goal.clause-returns
 unfolding expr_w absences
 clause-returns t c = (ended c.got.ensures (omega arith), record { does = λ a p. at_once (λ f. left _ _ _ (isn't c.peek-kind.ensures c.if-kind-word.false) (laid c.got.ensures refl c.absent-m.ensures.1)) })
 
+-- ── col ──
 pub col-emit-m-requires : goal.col-emit-m-requires
 col-emit-m-requires t c = omega arith
 
@@ -377,6 +389,7 @@ pub col-returns : goal.col-returns
 unfolding expr_w
 col-returns t c = (ended c.got-2.ensures (omega (arith, got_in c.alias-a.ensures.0 c.in-Got-a.is, got_in c.expr-r.ensures.0 c.in-Got.is, c.requires, c.emit-m-2.ensures.0, c.if-s_d-eq0.false, c.if-kind-eq-STAR.false, c.peek-kind.ensures)), record { does = λ a p. next ((c.expr-r.ensures.1 0).does a (c.asking.ensures.3.packs a 1 p)) (λ f h. left _ _ _ (isn't c.peek-kind.ensures c.if-kind-eq-STAR.false) (goes _ _ h c.in-Got.is (λ rs F. left _ _ _ (ne_eqb _ _ c.if-s_d-eq0.false) (goes _ _ c.alias-a.ensures.1 c.in-Got-a.is (λ qs G. laid c.got-2.ensures refl (topped (F then G) c.emit-m-2.ensures.1)))))) })
 
+-- ── cols ──
 pub cols-loop-d-init : goal.cols-loop-d-init
 unfolding expr_w
 cols-loop-d-init t c = (omega arith, λ a p. loop_start)
@@ -408,6 +421,7 @@ pub cols-returns : goal.cols-returns
 unfolding expr_w
 cols-returns t c = (ended c.counted.ensures (omega (arith, got_in c.col-r.ensures.0 c.in-Got.is, c.requires, c.if-kind-ne-COMMA.true, c.peek-kind.ensures, c.loop-d.invariant)), record { does = λ a p. (c.loop-d.invariant.1 a p).on _ _ (next (c.col-r.ensures.1.does a p) (λ f h. goes _ _ h c.in-Got.is (λ rs F. left _ _ _ (isn't c.peek-kind.ensures c.if-kind-ne-COMMA.true) (laid c.counted.ensures refl (F))))) })
 
+-- ── ex ──
 pub ex-too_deep-requires : goal.ex-too_deep-requires
 ex-too_deep-requires t c = omega arith
 
@@ -435,6 +449,7 @@ pub ex-returns : goal.ex-returns
 unfolding expr_w
 ex-returns t c = let f : Within 1 0 c.args.io.now c.args.at c.args.made c.if-kind-lt1.first = elim c.if-kind-lt1.branch [ ex-in-1-to-11 w ↦ same_answer w.first-is w.leaf-first.ensures.0 | ex-in_default w ↦ same_answer w.first-is w.operand-first.ensures.0 ] in (further c.ops.ensures.0 (omega (arith, got_in f c.in-Got.is, c.requires)), λ s. record { does = λ a p. let g : Later (λ f. Laid c.args.made c.args.nodes.now c.if-kind-lt1.nodes (choose (both (leb 1 (get_or (kinds_of c.args.io.now) c.args.at 0)) (leb (get_or (kinds_of c.args.io.now) c.args.at 0) 11)) (leaf_w (kinds_of c.args.io.now) (texts_of c.args.io.now) f c.args.at a s) (operand_w (kinds_of c.args.io.now) (texts_of c.args.io.now) f c.args.at a s)) c.if-kind-lt1.first) = elim c.if-kind-lt1.branch [ ex-in-1-to-11 w ↦ so ((w.leaf-first.ensures.1 s).does a p) (λ f h. took _ _ _ (by_kind (λ z. both (leb 1 z) (leb z 11)) c.peek-kind.ensures (between_in 1 11 c.peek-kind.result (omega arith) (omega arith))) (laid_joined w.nodes-is w.first-is h)) | ex-in_default w ↦ so ((w.operand-first.ensures.1 s).does a p) (λ f h. left _ _ _ (by_kind (λ z. both (leb 1 z) (leb z 11)) c.peek-kind.ensures (elim w.in_default.branch [ ex-in_default-via-then-kind-lt1 v ↦ between_out 1 11 c.peek-kind.result (λ z. omega (arith, z)) | ex-in_default-via-else-kind-lt1+else-kind-lt12 v ↦ between_out 1 11 c.peek-kind.result (λ z. omega (arith, z)) ])) (laid_joined w.nodes-is w.first-is h)) ] in next (g also for_any _ _ (λ pre e. (c.ops.ensures.1 s pre e).does a p) (got_in f c.in-Got.is).more) (λ f h. left _ _ _ (le-ltb 64 a.level (omega (arith, p.sum, p.weak, p.few, c.if-ask-ge-TOO_DEEP.false))) (goes _ _ h.0 c.in-Got.is (λ rs F. behind _ _ F (h.1 (length rs) F.counted)))) })
 
+-- ── exists ──
 pub exists-wrong-requires : goal.exists-wrong-requires
 exists-wrong-requires t c = omega arith
 
@@ -452,12 +467,14 @@ pub exists-returns : goal.exists-returns
 unfolding expr_w
 exists-returns t c = (further c.sub.ensures.0 (omega arith), record { does = λ a p. next (c.sub.ensures.1.does a p) (λ f h. took _ _ _ (is c.peek-kind.ensures c.if-kind-ne-LP.false) (h)) })
 
+-- ── expr ──
 pub expr-ex-requires : goal.expr-ex-requires
 expr-ex-requires t c = omega arith
 
 pub expr-returns : goal.expr-returns
 expr-returns t c = c.ex.ensures
 
+-- ── from ──
 pub from-absent-m-requires : goal.from-absent-m-requires
 from-absent-m-requires t c = omega arith
 
@@ -501,6 +518,7 @@ pub from-returns : goal.from-returns
 unfolding expr_w absences
 from-returns t c = (ended c.got-2.ensures (omega (arith, got_in c.joins-j.ensures.0 c.in-Got-j.is, got_in c.source-s.ensures.0 c.in-Got.is, c.requires, c.emit-m.ensures.0, c.if-kind-ne-FROM.false)), record { does = λ a p. next (c.source-s.ensures.1.does a p also c.joins-j.ensures.1.does a p) (λ f h. took _ _ _ (is c.requires.2 c.if-kind-ne-FROM.false) (goes _ _ h.0 c.in-Got.is (λ rs F. goes _ _ h.1 c.in-Got-j.is (λ qs G. laid c.got-2.ensures refl (topped (F then G) c.emit-m.ensures.1))))) })
 
+-- ── group ──
 pub group-overflow_add-at : goal.group-overflow_add-at
 group-overflow_add-at t c = omega arith
 
@@ -563,6 +581,7 @@ pub group-returns-in_default : goal.group-returns-in_default
 unfolding expr_w absences
 group-returns-in_default t c = (ended c.got.ensures (omega arith), record { does = λ a p. at_once (λ f. left _ _ _ (isn't c.peek-kind.ensures c.in_default.in_default-own.rest.0.1) (left _ _ _ (isn't c.peek-kind.ensures c.in_default.in_default-own.rest.1) (laid c.got.ensures refl c.absent-m.ensures.1))) })
 
+-- ── joins ──
 pub joins-loop-kind-init : goal.joins-loop-kind-init
 unfolding expr_w begins_join
 joins-loop-kind-init t c = (omega arith, λ a p. loop_start)
@@ -617,6 +636,7 @@ pub joins-returns : goal.joins-returns
 unfolding expr_w begins_join
 joins-returns t c = (ended c.counted.ensures (omega arith), record { does = λ a p. (c.loop-kind.invariant.1 a p).on _ _ (at_once (λ f. left _ _ _ (by_kind begins_join c.peek-kind.ensures (sym c.begins_join.ensures ∙ c.if-not-begins_join.true)) (laid c.counted.ensures refl (nothing)))) })
 
+-- ── leaf ──
 pub leaf-literal_text-requires : goal.leaf-literal_text-requires
 leaf-literal_text-requires t c = omega arith
 
@@ -659,6 +679,7 @@ pub leaf-returns : goal.leaf-returns
 unfolding expr_w
 leaf-returns t c = (further c.dotted.ensures.0 (omega (arith, c.requires, c.peek-next.ensures, c.named-m.ensures.0, c.if-code-gt0.false)), λ s. record { does = λ a p. at_once (λ f. left _ _ _ (by_kind (λ k. ltb 0 (literal_code k)) c.requires.3 (le-ltb 0 (literal_code c.args.kind) (omega (arith, c.literal_code-code.ensures, c.if-code-gt0.false)))) (left _ _ _ (elim c.if-next-eq-LP.branch [ leaf-then-next-eq-LP+else-kind-ne-INDEXED w ↦ no_right _ _ (by_kind heads_call c.requires.3 (indexed_heads_none _ w.if-kind-ne-INDEXED.false)) | leaf-else-next-eq-LP w ↦ no_left _ _ (isn't c.peek-next.ensures w.if-next-eq-LP.false) ]) (behind _ _ (c.named-m.ensures.1 c.requires.3.is) (by_walk (ap (λ z. dotted_w (kinds_of c.args.io.now) (texts_of c.args.io.now) (c.args.at + 1) z) (sym (c.asked.ensures ∙ strength_of p))) c.dotted.ensures.1)))) })
 
+-- ── limit ──
 pub limit-absent-m-requires : goal.limit-absent-m-requires
 limit-absent-m-requires t c = omega arith
 
@@ -710,6 +731,7 @@ pub limit-returns-in_default-next : goal.limit-returns-in_default-next
 unfolding expr_w absences
 limit-returns-in_default-next t c = (ended c.got-in_default-next.ensures (omega (arith, got_in c.expr-a.ensures.0 c.in-Got.is, c.requires, c.absent-m-in_default-next.ensures.0, c.peek-next.ensures, c.if-kind-ne-LIMIT.false, c.peek-kind.ensures)), record { does = λ a p. next ((c.expr-a.ensures.1 1).does a p) (λ f h. took _ _ _ (is c.peek-kind.ensures c.if-kind-ne-LIMIT.false) (goes _ _ h c.in-Got.is (λ rs F. left _ _ _ (isn't c.peek-next.ensures c.in_default-next.in_default-next-own.rest.0.1) (left _ _ _ (isn't c.peek-next.ensures c.in_default-next.in_default-next-own.rest.1) (laid c.got-in_default-next.ensures refl (F then c.absent-m-in_default-next.ensures.1)))))) })
 
+-- ── list ──
 pub list-loop-d-init : goal.list-loop-d-init
 unfolding expr_w
 list-loop-d-init t c = (omega arith, λ a p. loop_start)
@@ -741,6 +763,7 @@ pub list-returns : goal.list-returns
 unfolding expr_w
 list-returns t c = (ended c.counted.ensures (omega (arith, got_in c.expr-r.ensures.0 c.in-Got.is, c.requires, c.if-kind-ne-COMMA.true, c.peek-kind.ensures, c.loop-d.invariant)), record { does = λ a p. (c.loop-d.invariant.1 a p).on _ _ (next ((c.expr-r.ensures.1 1).does a p) (λ f h. goes _ _ h c.in-Got.is (λ rs F. left _ _ _ (isn't c.peek-kind.ensures c.if-kind-ne-COMMA.true) (laid c.counted.ensures refl (F))))) })
 
+-- ── on ──
 pub on-overflow_add-at : goal.on-overflow_add-at
 on-overflow_add-at t c = omega arith
 
@@ -781,6 +804,7 @@ pub on-returns-in_default : goal.on-returns-in_default
 unfolding expr_w absences
 on-returns-in_default t c = (ended c.got-in_default.ensures (omega arith), record { does = λ a p. at_once (λ f. left _ _ _ (isn't c.peek-kind.ensures c.in_default.in_default-own.rest.0.1) (left _ _ _ (isn't c.peek-kind.ensures c.in_default.in_default-own.rest.1) (laid c.got-in_default.ensures refl c.absent-m.ensures.1))) })
 
+-- ── op ──
 pub op-overflow_add-at : goal.op-overflow_add-at
 op-overflow_add-at t c = omega arith
 
@@ -793,56 +817,14 @@ op-returns-then-kind-lt-NOT t c = (further c.binary.ensures.0 (omega arith), λ 
 pub op-overflow_add-at-then-kind-eq-NOT-2 : goal.op-overflow_add-at-then-kind-eq-NOT-2
 op-overflow_add-at-then-kind-eq-NOT-2 t c = omega arith
 
-pub op-overflow_add-next : goal.op-overflow_add-next
-op-overflow_add-next t c = let n : c.if-kind-eq-NOT.not ≤ 1 = elim c.if-kind-eq-NOT.branch [ op-then-kind-eq-NOT w ↦ omega arith | op-else-kind-eq-NOT w ↦ omega arith ] in omega (arith)
-
-pub op-overflow_add-next-2 : goal.op-overflow_add-next-2
-op-overflow_add-next-2 t c = let n : c.if-kind-eq-NOT.not ≤ 1 = elim c.if-kind-eq-NOT.branch [ op-then-kind-eq-NOT w ↦ omega arith | op-else-kind-eq-NOT w ↦ omega arith ] in omega (arith)
-
-pub op-among-requires : goal.op-among-requires
-op-among-requires t c = let n : c.if-kind-eq-NOT.not ≤ 1 = elim c.if-kind-eq-NOT.branch [ op-then-kind-eq-NOT w ↦ omega arith | op-else-kind-eq-NOT w ↦ omega arith ] in let s : Seen c.args.io.now (c.args.at + c.if-kind-eq-NOT.not) c.if-kind-eq-NOT-2.word = elim c.if-kind-eq-NOT.branch [ op-then-kind-eq-NOT v ↦ elim c.if-kind-eq-NOT-2.branch [ op-then-kind-eq-NOT-2 w ↦ seen_as w.peek-word.ensures (omega arith) w.word-is | op-else-kind-eq-NOT-2 w ↦ absurd (omega arith) ] | op-else-kind-eq-NOT v ↦ elim c.if-kind-eq-NOT-2.branch [ op-then-kind-eq-NOT-2 w ↦ absurd (omega arith) | op-else-kind-eq-NOT-2 w ↦ seen_as c.requires.3 (omega arith) w.word-is ] ] in omega (arith)
-
-pub op-range-requires : goal.op-range-requires
-op-range-requires t c = let n : c.if-kind-eq-NOT.not ≤ 1 = elim c.if-kind-eq-NOT.branch [ op-then-kind-eq-NOT w ↦ omega arith | op-else-kind-eq-NOT w ↦ omega arith ] in let s : Seen c.args.io.now (c.args.at + c.if-kind-eq-NOT.not) c.if-kind-eq-NOT-2.word = elim c.if-kind-eq-NOT.branch [ op-then-kind-eq-NOT v ↦ elim c.if-kind-eq-NOT-2.branch [ op-then-kind-eq-NOT-2 w ↦ seen_as w.peek-word.ensures (omega arith) w.word-is | op-else-kind-eq-NOT-2 w ↦ absurd (omega arith) ] | op-else-kind-eq-NOT v ↦ elim c.if-kind-eq-NOT-2.branch [ op-then-kind-eq-NOT-2 w ↦ absurd (omega arith) | op-else-kind-eq-NOT-2 w ↦ seen_as c.requires.3 (omega arith) w.word-is ] ] in omega (arith)
-
-pub op-overflow_mul-not : goal.op-overflow_mul-not
-op-overflow_mul-not t c = let n : c.if-kind-eq-NOT.not ≤ 1 = elim c.if-kind-eq-NOT.branch [ op-then-kind-eq-NOT w ↦ omega arith | op-else-kind-eq-NOT w ↦ omega arith ] in omega (arith)
-
-pub op-overflow_add-not : goal.op-overflow_add-not
-op-overflow_add-not t c = let n : c.if-kind-eq-NOT.not ≤ 1 = elim c.if-kind-eq-NOT.branch [ op-then-kind-eq-NOT w ↦ omega arith | op-else-kind-eq-NOT w ↦ omega arith ] in omega (arith)
-
-pub op-overflow_add-at-in-40 : goal.op-overflow_add-at-in-40
-op-overflow_add-at-in-40 t c = let n : c.if-kind-eq-NOT.not ≤ 1 = elim c.if-kind-eq-NOT.branch [ op-then-kind-eq-NOT w ↦ omega arith | op-else-kind-eq-NOT w ↦ omega arith ] in omega (arith)
-
-pub op-text-requires : goal.op-text-requires
-op-text-requires t c = let n : c.if-kind-eq-NOT.not ≤ 1 = elim c.if-kind-eq-NOT.branch [ op-then-kind-eq-NOT w ↦ omega arith | op-else-kind-eq-NOT w ↦ omega arith ] in let s : Seen c.args.io.now (c.args.at + c.if-kind-eq-NOT.not) c.if-kind-eq-NOT-2.word = elim c.if-kind-eq-NOT.branch [ op-then-kind-eq-NOT v ↦ elim c.if-kind-eq-NOT-2.branch [ op-then-kind-eq-NOT-2 w ↦ seen_as w.peek-word.ensures (omega arith) w.word-is | op-else-kind-eq-NOT-2 w ↦ absurd (omega arith) ] | op-else-kind-eq-NOT v ↦ elim c.if-kind-eq-NOT-2.branch [ op-then-kind-eq-NOT-2 w ↦ absurd (omega arith) | op-else-kind-eq-NOT-2 w ↦ seen_as c.requires.3 (omega arith) w.word-is ] ] in omega (arith)
-
 pub op-overflow_add-not-in-40 : goal.op-overflow_add-not-in-40
-op-overflow_add-not-in-40 t c = let n : c.if-kind-eq-NOT.not ≤ 1 = elim c.if-kind-eq-NOT.branch [ op-then-kind-eq-NOT w ↦ omega arith | op-else-kind-eq-NOT w ↦ omega arith ] in let s : Seen c.args.io.now (c.args.at + c.if-kind-eq-NOT.not) c.if-kind-eq-NOT-2.word = elim c.if-kind-eq-NOT.branch [ op-then-kind-eq-NOT v ↦ elim c.if-kind-eq-NOT-2.branch [ op-then-kind-eq-NOT-2 w ↦ seen_as w.peek-word.ensures (omega arith) w.word-is | op-else-kind-eq-NOT-2 w ↦ absurd (omega arith) ] | op-else-kind-eq-NOT v ↦ elim c.if-kind-eq-NOT-2.branch [ op-then-kind-eq-NOT-2 w ↦ absurd (omega arith) | op-else-kind-eq-NOT-2 w ↦ seen_as c.requires.3 (omega arith) w.word-is ] ] in let l : c.text.result ≤ 3 = rw c.text.ensures (like_text _ _ c.requires.0.liked (sym s.is ∙ c.in-40.is)) in omega (arith)
-
-pub op-binary-requires-in-40 : goal.op-binary-requires-in-40
-op-binary-requires-in-40 t c = let n : c.if-kind-eq-NOT.not ≤ 1 = elim c.if-kind-eq-NOT.branch [ op-then-kind-eq-NOT w ↦ omega arith | op-else-kind-eq-NOT w ↦ omega arith ] in let s : Seen c.args.io.now (c.args.at + c.if-kind-eq-NOT.not) c.if-kind-eq-NOT-2.word = elim c.if-kind-eq-NOT.branch [ op-then-kind-eq-NOT v ↦ elim c.if-kind-eq-NOT-2.branch [ op-then-kind-eq-NOT-2 w ↦ seen_as w.peek-word.ensures (omega arith) w.word-is | op-else-kind-eq-NOT-2 w ↦ absurd (omega arith) ] | op-else-kind-eq-NOT v ↦ elim c.if-kind-eq-NOT-2.branch [ op-then-kind-eq-NOT-2 w ↦ absurd (omega arith) | op-else-kind-eq-NOT-2 w ↦ seen_as c.requires.3 (omega arith) w.word-is ] ] in omega (arith)
+op-overflow_add-not-in-40 t c = let n : c.if-kind-eq-NOT.not ≤ 1 = omega arith in let s : Seen c.args.io.now (c.args.at + c.if-kind-eq-NOT.not) c.if-kind-eq-NOT-2.word = elim c.if-kind-eq-NOT.branch [ op-then-kind-eq-NOT v ↦ elim c.if-kind-eq-NOT-2.branch [ op-then-kind-eq-NOT-2 w ↦ seen_as w.peek-word.ensures (omega arith) w.word-is | op-else-kind-eq-NOT-2 w ↦ absurd (omega arith) ] | op-else-kind-eq-NOT v ↦ elim c.if-kind-eq-NOT-2.branch [ op-then-kind-eq-NOT-2 w ↦ absurd (omega arith) | op-else-kind-eq-NOT-2 w ↦ seen_as c.requires.3 (omega arith) w.word-is ] ] in let l : c.text.result ≤ 3 = rw c.text.ensures (like_text _ _ c.requires.0.liked (sym s.is ∙ c.in-40.is)) in omega (arith)
 
 pub op-notnull-requires : goal.op-notnull-requires
 op-notnull-requires t c = omega arith
 
 pub op-returns-then-not-eq1 : goal.op-returns-then-not-eq1
-op-returns-then-not-eq1 t c = let way : Way c.args.io.now c.args.at c.args.kind c.if-kind-eq-NOT.not c.if-kind-eq-NOT-2.word = elim c.if-kind-eq-NOT.branch [ op-then-kind-eq-NOT v ↦ elim c.if-kind-eq-NOT-2.branch [ op-then-kind-eq-NOT-2 w ↦ inl (v.if-kind-eq-NOT.true, v.not-is, seen_as w.peek-word.ensures refl w.word-is) | op-else-kind-eq-NOT-2 w ↦ absurd (w.if-kind-eq-NOT-2.false v.if-kind-eq-NOT.true) ] | op-else-kind-eq-NOT v ↦ elim c.if-kind-eq-NOT-2.branch [ op-then-kind-eq-NOT-2 w ↦ absurd (v.if-kind-eq-NOT.false w.if-kind-eq-NOT-2.true) | op-else-kind-eq-NOT-2 w ↦ inr (v.if-kind-eq-NOT.false, v.not-is, w.word-is) ] ] in (let n : c.if-kind-eq-NOT.not ≤ 1 = elim c.if-kind-eq-NOT.branch [ op-then-kind-eq-NOT w ↦ omega arith | op-else-kind-eq-NOT w ↦ omega arith ] in let s : Seen c.args.io.now (c.args.at + c.if-kind-eq-NOT.not) c.if-kind-eq-NOT-2.word = elim c.if-kind-eq-NOT.branch [ op-then-kind-eq-NOT v ↦ elim c.if-kind-eq-NOT-2.branch [ op-then-kind-eq-NOT-2 w ↦ seen_as w.peek-word.ensures (omega arith) w.word-is | op-else-kind-eq-NOT-2 w ↦ absurd (omega arith) ] | op-else-kind-eq-NOT v ↦ elim c.if-kind-eq-NOT-2.branch [ op-then-kind-eq-NOT-2 w ↦ absurd (omega arith) | op-else-kind-eq-NOT-2 w ↦ seen_as c.requires.3 (omega arith) w.word-is ] ] in null_before c.notnull.ensures.0 (λ e. omega (arith)) (omega (arith)), λ s pre b. record { does = λ a p. op_null a s pre c.requires.3 way c.if-not-eq1.true c.in_default.in_default-own.rest.0.0.1 c.in_default.in_default-own.rest.0.1 c.in_default.in_default-own.rest.1 (c.notnull.ensures.1 pre b) })
-
-pub op-overflow_add-next-in-37 : goal.op-overflow_add-next-in-37
-op-overflow_add-next-in-37 t c = let n : c.if-kind-eq-NOT.not ≤ 1 = elim c.if-kind-eq-NOT.branch [ op-then-kind-eq-NOT w ↦ omega arith | op-else-kind-eq-NOT w ↦ omega arith ] in let i : (c.if-peek-eq-NOT.isnot ≤ 1) × (c.args.at + c.if-kind-eq-NOT.not + 1 + c.if-peek-eq-NOT.isnot ≤ tokens c.args.io.now) = elim c.if-peek-eq-NOT.branch [ op-then-peek-eq-NOT w ↦ omega (arith) | op-else-peek-eq-NOT w ↦ omega (arith) ] in omega (arith)
-
-pub op-overflow_mul-isnot : goal.op-overflow_mul-isnot
-op-overflow_mul-isnot t c = let n : c.if-kind-eq-NOT.not ≤ 1 = elim c.if-kind-eq-NOT.branch [ op-then-kind-eq-NOT w ↦ omega arith | op-else-kind-eq-NOT w ↦ omega arith ] in let i : (c.if-peek-eq-NOT.isnot ≤ 1) × (c.args.at + c.if-kind-eq-NOT.not + 1 + c.if-peek-eq-NOT.isnot ≤ tokens c.args.io.now) = elim c.if-peek-eq-NOT.branch [ op-then-peek-eq-NOT w ↦ omega (arith) | op-else-peek-eq-NOT w ↦ omega (arith) ] in omega (arith)
-
-pub op-overflow_add-isnot : goal.op-overflow_add-isnot
-op-overflow_add-isnot t c = let n : c.if-kind-eq-NOT.not ≤ 1 = elim c.if-kind-eq-NOT.branch [ op-then-kind-eq-NOT w ↦ omega arith | op-else-kind-eq-NOT w ↦ omega arith ] in let i : (c.if-peek-eq-NOT.isnot ≤ 1) × (c.args.at + c.if-kind-eq-NOT.not + 1 + c.if-peek-eq-NOT.isnot ≤ tokens c.args.io.now) = elim c.if-peek-eq-NOT.branch [ op-then-peek-eq-NOT w ↦ omega (arith) | op-else-peek-eq-NOT w ↦ omega (arith) ] in omega (arith)
-
-pub op-binary-requires-in-37 : goal.op-binary-requires-in-37
-op-binary-requires-in-37 t c = let n : c.if-kind-eq-NOT.not ≤ 1 = elim c.if-kind-eq-NOT.branch [ op-then-kind-eq-NOT w ↦ omega arith | op-else-kind-eq-NOT w ↦ omega arith ] in let i : (c.if-peek-eq-NOT.isnot ≤ 1) × (c.args.at + c.if-kind-eq-NOT.not + 1 + c.if-peek-eq-NOT.isnot ≤ tokens c.args.io.now) = elim c.if-peek-eq-NOT.branch [ op-then-peek-eq-NOT w ↦ omega (arith) | op-else-peek-eq-NOT w ↦ omega (arith) ] in omega (arith)
-
-pub op-collate-requires : goal.op-collate-requires
-op-collate-requires t c = let n : c.if-kind-eq-NOT.not ≤ 1 = elim c.if-kind-eq-NOT.branch [ op-then-kind-eq-NOT w ↦ omega arith | op-else-kind-eq-NOT w ↦ omega arith ] in omega (arith)
+op-returns-then-not-eq1 t c = let way : Way c.args.io.now c.args.at c.args.kind c.if-kind-eq-NOT.not c.if-kind-eq-NOT-2.word = way_of c.args.at (elim c.if-kind-eq-NOT.branch [ op-then-kind-eq-NOT w ↦ inl (w.if-kind-eq-NOT.true, w.not-is) | op-else-kind-eq-NOT w ↦ inr (w.if-kind-eq-NOT.false, w.not-is) ]) (elim c.if-kind-eq-NOT-2.branch [ op-then-kind-eq-NOT-2 w ↦ inl (w.if-kind-eq-NOT-2.true, seen_as w.peek-word.ensures refl w.word-is) | op-else-kind-eq-NOT-2 w ↦ inr (w.if-kind-eq-NOT-2.false, w.word-is) ]) in (let n : c.if-kind-eq-NOT.not ≤ 1 = omega arith in let s : Seen c.args.io.now (c.args.at + c.if-kind-eq-NOT.not) c.if-kind-eq-NOT-2.word = elim c.if-kind-eq-NOT.branch [ op-then-kind-eq-NOT v ↦ elim c.if-kind-eq-NOT-2.branch [ op-then-kind-eq-NOT-2 w ↦ seen_as w.peek-word.ensures (omega arith) w.word-is | op-else-kind-eq-NOT-2 w ↦ absurd (omega arith) ] | op-else-kind-eq-NOT v ↦ elim c.if-kind-eq-NOT-2.branch [ op-then-kind-eq-NOT-2 w ↦ absurd (omega arith) | op-else-kind-eq-NOT-2 w ↦ seen_as c.requires.3 (omega arith) w.word-is ] ] in null_before c.notnull.ensures.0 (λ e. omega (arith)) (omega (arith)), λ s pre b. record { does = λ a p. op_null a s pre c.requires.3 way c.if-not-eq1.true c.in_default.in_default-own.rest.0.0.1 c.in_default.in_default-own.rest.0.1 c.in_default.in_default-own.rest.1 (c.notnull.ensures.1 pre b) })
 
 pub op-overflow_sub-made : goal.op-overflow_sub-made
 op-overflow_sub-made t c = omega (arith, c.requires, c.if-not-eq1.false, c.if-kind-lt-NOT.false)
@@ -854,23 +836,24 @@ pub op-emit-m-requires : goal.op-emit-m-requires
 op-emit-m-requires t c = omega (arith, c.requires, c.if-not-eq1.false, c.if-kind-lt-NOT.false)
 
 pub op-returns-in-38 : goal.op-returns-in-38
-op-returns-in-38 t c = let way : Way c.args.io.now c.args.at c.args.kind c.if-kind-eq-NOT.not c.if-kind-eq-NOT-2.word = elim c.if-kind-eq-NOT.branch [ op-then-kind-eq-NOT v ↦ elim c.if-kind-eq-NOT-2.branch [ op-then-kind-eq-NOT-2 w ↦ inl (v.if-kind-eq-NOT.true, v.not-is, seen_as w.peek-word.ensures refl w.word-is) | op-else-kind-eq-NOT-2 w ↦ absurd (w.if-kind-eq-NOT-2.false v.if-kind-eq-NOT.true) ] | op-else-kind-eq-NOT v ↦ elim c.if-kind-eq-NOT-2.branch [ op-then-kind-eq-NOT-2 w ↦ absurd (v.if-kind-eq-NOT.false w.if-kind-eq-NOT-2.true) | op-else-kind-eq-NOT-2 w ↦ inr (v.if-kind-eq-NOT.false, v.not-is, w.word-is) ] ] in (further c.among.ensures.0 (omega (arith, c.requires, c.if-kind-lt-NOT.false)), λ s pre b. record { does = λ a p. op_inside a s pre c.requires.3 (omega (arith, c.if-kind-lt-NOT.false)) way c.in-38.is ((c.among.ensures.1 s pre b).does a p) })
+op-returns-in-38 t c = let way : Way c.args.io.now c.args.at c.args.kind c.if-kind-eq-NOT.not c.if-kind-eq-NOT-2.word = way_of c.args.at (elim c.if-kind-eq-NOT.branch [ op-then-kind-eq-NOT w ↦ inl (w.if-kind-eq-NOT.true, w.not-is) | op-else-kind-eq-NOT w ↦ inr (w.if-kind-eq-NOT.false, w.not-is) ]) (elim c.if-kind-eq-NOT-2.branch [ op-then-kind-eq-NOT-2 w ↦ inl (w.if-kind-eq-NOT-2.true, seen_as w.peek-word.ensures refl w.word-is) | op-else-kind-eq-NOT-2 w ↦ inr (w.if-kind-eq-NOT-2.false, w.word-is) ]) in (further c.among.ensures.0 (omega (arith, c.requires, c.if-kind-lt-NOT.false)), λ s pre b. record { does = λ a p. op_inside a s pre c.requires.3 (omega (arith, c.if-kind-lt-NOT.false)) way c.in-38.is ((c.among.ensures.1 s pre b).does a p) })
 
 pub op-returns-in-39 : goal.op-returns-in-39
-op-returns-in-39 t c = let way : Way c.args.io.now c.args.at c.args.kind c.if-kind-eq-NOT.not c.if-kind-eq-NOT-2.word = elim c.if-kind-eq-NOT.branch [ op-then-kind-eq-NOT v ↦ elim c.if-kind-eq-NOT-2.branch [ op-then-kind-eq-NOT-2 w ↦ inl (v.if-kind-eq-NOT.true, v.not-is, seen_as w.peek-word.ensures refl w.word-is) | op-else-kind-eq-NOT-2 w ↦ absurd (w.if-kind-eq-NOT-2.false v.if-kind-eq-NOT.true) ] | op-else-kind-eq-NOT v ↦ elim c.if-kind-eq-NOT-2.branch [ op-then-kind-eq-NOT-2 w ↦ absurd (v.if-kind-eq-NOT.false w.if-kind-eq-NOT-2.true) | op-else-kind-eq-NOT-2 w ↦ inr (v.if-kind-eq-NOT.false, v.not-is, w.word-is) ] ] in (further c.range.ensures.0 (omega (arith, c.requires, c.if-kind-lt-NOT.false)), λ s pre b. record { does = λ a p. op_between a s pre c.requires.3 (omega (arith, c.if-kind-lt-NOT.false)) way c.in-39.is ((c.range.ensures.1 s pre b).does a p) })
+op-returns-in-39 t c = let way : Way c.args.io.now c.args.at c.args.kind c.if-kind-eq-NOT.not c.if-kind-eq-NOT-2.word = way_of c.args.at (elim c.if-kind-eq-NOT.branch [ op-then-kind-eq-NOT w ↦ inl (w.if-kind-eq-NOT.true, w.not-is) | op-else-kind-eq-NOT w ↦ inr (w.if-kind-eq-NOT.false, w.not-is) ]) (elim c.if-kind-eq-NOT-2.branch [ op-then-kind-eq-NOT-2 w ↦ inl (w.if-kind-eq-NOT-2.true, seen_as w.peek-word.ensures refl w.word-is) | op-else-kind-eq-NOT-2 w ↦ inr (w.if-kind-eq-NOT-2.false, w.word-is) ]) in (further c.range.ensures.0 (omega (arith, c.requires, c.if-kind-lt-NOT.false)), λ s pre b. record { does = λ a p. op_between a s pre c.requires.3 (omega (arith, c.if-kind-lt-NOT.false)) way c.in-39.is ((c.range.ensures.1 s pre b).does a p) })
 
 pub op-returns-in-40 : goal.op-returns-in-40
-op-returns-in-40 t c = let way : Way c.args.io.now c.args.at c.args.kind c.if-kind-eq-NOT.not c.if-kind-eq-NOT-2.word = elim c.if-kind-eq-NOT.branch [ op-then-kind-eq-NOT v ↦ elim c.if-kind-eq-NOT-2.branch [ op-then-kind-eq-NOT-2 w ↦ inl (v.if-kind-eq-NOT.true, v.not-is, seen_as w.peek-word.ensures refl w.word-is) | op-else-kind-eq-NOT-2 w ↦ absurd (w.if-kind-eq-NOT-2.false v.if-kind-eq-NOT.true) ] | op-else-kind-eq-NOT v ↦ elim c.if-kind-eq-NOT-2.branch [ op-then-kind-eq-NOT-2 w ↦ absurd (v.if-kind-eq-NOT.false w.if-kind-eq-NOT-2.true) | op-else-kind-eq-NOT-2 w ↦ inr (v.if-kind-eq-NOT.false, v.not-is, w.word-is) ] ] in (further c.binary-in-40.ensures.0 (omega (arith, c.requires, c.if-kind-lt-NOT.false)), λ s pre b. record { does = λ a p. op_like a s pre c.requires.3 (omega (arith, c.if-kind-lt-NOT.false)) way c.in-40.is _ c.text.ensures ((c.binary-in-40.ensures.1 s pre b).does a p) })
+op-returns-in-40 t c = let way : Way c.args.io.now c.args.at c.args.kind c.if-kind-eq-NOT.not c.if-kind-eq-NOT-2.word = way_of c.args.at (elim c.if-kind-eq-NOT.branch [ op-then-kind-eq-NOT w ↦ inl (w.if-kind-eq-NOT.true, w.not-is) | op-else-kind-eq-NOT w ↦ inr (w.if-kind-eq-NOT.false, w.not-is) ]) (elim c.if-kind-eq-NOT-2.branch [ op-then-kind-eq-NOT-2 w ↦ inl (w.if-kind-eq-NOT-2.true, seen_as w.peek-word.ensures refl w.word-is) | op-else-kind-eq-NOT-2 w ↦ inr (w.if-kind-eq-NOT-2.false, w.word-is) ]) in (further c.binary-in-40.ensures.0 (omega (arith, c.requires, c.if-kind-lt-NOT.false)), λ s pre b. record { does = λ a p. op_like a s pre c.requires.3 (omega (arith, c.if-kind-lt-NOT.false)) way c.in-40.is _ c.text.ensures ((c.binary-in-40.ensures.1 s pre b).does a p) })
 
 pub op-returns-after-peek-eq-NOT : goal.op-returns-after-peek-eq-NOT
-op-returns-after-peek-eq-NOT t c = let way : Way c.args.io.now c.args.at c.args.kind c.if-kind-eq-NOT.not c.if-kind-eq-NOT-2.word = elim c.if-kind-eq-NOT.branch [ op-then-kind-eq-NOT v ↦ elim c.if-kind-eq-NOT-2.branch [ op-then-kind-eq-NOT-2 w ↦ inl (v.if-kind-eq-NOT.true, v.not-is, seen_as w.peek-word.ensures refl w.word-is) | op-else-kind-eq-NOT-2 w ↦ absurd (w.if-kind-eq-NOT-2.false v.if-kind-eq-NOT.true) ] | op-else-kind-eq-NOT v ↦ elim c.if-kind-eq-NOT-2.branch [ op-then-kind-eq-NOT-2 w ↦ absurd (v.if-kind-eq-NOT.false w.if-kind-eq-NOT-2.true) | op-else-kind-eq-NOT-2 w ↦ inr (v.if-kind-eq-NOT.false, v.not-is, w.word-is) ] ] in (further c.binary-in-37.ensures.0 (omega (arith, c.requires, c.peek.ensures, c.if-not-eq1.false, c.if-kind-lt-NOT.false)), λ s pre b. record { does = λ a p. op_is a s pre c.requires.3 (omega (arith, c.if-kind-lt-NOT.false)) way c.if-not-eq1.false c.in_default.in_default-own.rest.0.0.1 c.in_default.in_default-own.rest.0.1 c.in_default.in_default-own.rest.1 c.in-37.is c.if-peek-eq-NOT.isnot _ c.peek.ensures (elim c.if-peek-eq-NOT.branch [ op-then-peek-eq-NOT w ↦ inl (w.if-peek-eq-NOT.true, w.isnot-is) | op-else-peek-eq-NOT w ↦ inr (w.if-peek-eq-NOT.false, w.isnot-is) ]) ((c.binary-in-37.ensures.1 s pre b).does a p) })
+op-returns-after-peek-eq-NOT t c = let way : Way c.args.io.now c.args.at c.args.kind c.if-kind-eq-NOT.not c.if-kind-eq-NOT-2.word = way_of c.args.at (elim c.if-kind-eq-NOT.branch [ op-then-kind-eq-NOT w ↦ inl (w.if-kind-eq-NOT.true, w.not-is) | op-else-kind-eq-NOT w ↦ inr (w.if-kind-eq-NOT.false, w.not-is) ]) (elim c.if-kind-eq-NOT-2.branch [ op-then-kind-eq-NOT-2 w ↦ inl (w.if-kind-eq-NOT-2.true, seen_as w.peek-word.ensures refl w.word-is) | op-else-kind-eq-NOT-2 w ↦ inr (w.if-kind-eq-NOT-2.false, w.word-is) ]) in (further c.binary-in-37.ensures.0 (omega (arith, c.requires, c.peek.ensures, c.if-not-eq1.false, c.if-kind-lt-NOT.false)), λ s pre b. record { does = λ a p. op_is a s pre c.requires.3 (omega (arith, c.if-kind-lt-NOT.false)) way c.if-not-eq1.false c.in_default.in_default-own.rest.0.0.1 c.in_default.in_default-own.rest.0.1 c.in_default.in_default-own.rest.1 c.in-37.is c.if-peek-eq-NOT.isnot _ c.peek.ensures (elim c.if-peek-eq-NOT.branch [ op-then-peek-eq-NOT w ↦ inl (w.if-peek-eq-NOT.true, w.isnot-is) | op-else-peek-eq-NOT w ↦ inr (w.if-peek-eq-NOT.false, w.isnot-is) ]) ((c.binary-in-37.ensures.1 s pre b).does a p) })
 
 pub op-returns-in-43 : goal.op-returns-in-43
-op-returns-in-43 t c = let way : Way c.args.io.now c.args.at c.args.kind c.if-kind-eq-NOT.not c.if-kind-eq-NOT-2.word = elim c.if-kind-eq-NOT.branch [ op-then-kind-eq-NOT v ↦ elim c.if-kind-eq-NOT-2.branch [ op-then-kind-eq-NOT-2 w ↦ inl (v.if-kind-eq-NOT.true, v.not-is, seen_as w.peek-word.ensures refl w.word-is) | op-else-kind-eq-NOT-2 w ↦ absurd (w.if-kind-eq-NOT-2.false v.if-kind-eq-NOT.true) ] | op-else-kind-eq-NOT v ↦ elim c.if-kind-eq-NOT-2.branch [ op-then-kind-eq-NOT-2 w ↦ absurd (v.if-kind-eq-NOT.false w.if-kind-eq-NOT-2.true) | op-else-kind-eq-NOT-2 w ↦ inr (v.if-kind-eq-NOT.false, v.not-is, w.word-is) ] ] in (further c.collate.ensures.0 (omega (arith, c.requires, c.if-not-eq1.false, c.if-kind-lt-NOT.false)), λ s pre b. record { does = λ a p. op_collate a s pre c.requires.3 (omega (arith, c.if-kind-lt-NOT.false)) way c.if-not-eq1.false c.in_default.in_default-own.rest.0.0.1 c.in_default.in_default-own.rest.0.1 c.in_default.in_default-own.rest.1 c.in-43.is (c.collate.ensures.1 pre b) })
+op-returns-in-43 t c = let way : Way c.args.io.now c.args.at c.args.kind c.if-kind-eq-NOT.not c.if-kind-eq-NOT-2.word = way_of c.args.at (elim c.if-kind-eq-NOT.branch [ op-then-kind-eq-NOT w ↦ inl (w.if-kind-eq-NOT.true, w.not-is) | op-else-kind-eq-NOT w ↦ inr (w.if-kind-eq-NOT.false, w.not-is) ]) (elim c.if-kind-eq-NOT-2.branch [ op-then-kind-eq-NOT-2 w ↦ inl (w.if-kind-eq-NOT-2.true, seen_as w.peek-word.ensures refl w.word-is) | op-else-kind-eq-NOT-2 w ↦ inr (w.if-kind-eq-NOT-2.false, w.word-is) ]) in (further c.collate.ensures.0 (omega (arith, c.requires, c.if-not-eq1.false, c.if-kind-lt-NOT.false)), λ s pre b. record { does = λ a p. op_collate a s pre c.requires.3 (omega (arith, c.if-kind-lt-NOT.false)) way c.if-not-eq1.false c.in_default.in_default-own.rest.0.0.1 c.in_default.in_default-own.rest.0.1 c.in_default.in_default-own.rest.1 c.in-43.is (c.collate.ensures.1 pre b) })
 
 pub op-returns-in_default-kind : goal.op-returns-in_default-kind
-op-returns-in_default-kind t c = let way : Way c.args.io.now c.args.at c.args.kind c.if-kind-eq-NOT.not c.if-kind-eq-NOT-2.word = elim c.if-kind-eq-NOT.branch [ op-then-kind-eq-NOT v ↦ elim c.if-kind-eq-NOT-2.branch [ op-then-kind-eq-NOT-2 w ↦ inl (v.if-kind-eq-NOT.true, v.not-is, seen_as w.peek-word.ensures refl w.word-is) | op-else-kind-eq-NOT-2 w ↦ absurd (w.if-kind-eq-NOT-2.false v.if-kind-eq-NOT.true) ] | op-else-kind-eq-NOT v ↦ elim c.if-kind-eq-NOT-2.branch [ op-then-kind-eq-NOT-2 w ↦ absurd (v.if-kind-eq-NOT.false w.if-kind-eq-NOT-2.true) | op-else-kind-eq-NOT-2 w ↦ inr (v.if-kind-eq-NOT.false, v.not-is, w.word-is) ] ] in (let n : c.if-kind-eq-NOT.not ≤ 1 = elim c.if-kind-eq-NOT.branch [ op-then-kind-eq-NOT w ↦ omega arith | op-else-kind-eq-NOT w ↦ omega arith ] in ended c.got.ensures (omega (arith)), λ s pre b. record { does = λ a p. op_postfix a s pre c.requires.3 (omega (arith, c.if-kind-lt-NOT.false)) way c.if-not-eq1.false c.in_default.in_default-own.rest.0.0.1 c.in_default.in_default-own.rest.0.1 c.in_default.in_default-own.rest.1 c.in_default-kind.in_default-kind-own.rest.0.1 c.in_default-kind.in_default-kind-own.rest.1 (laid c.got.ensures refl (closed _ pre b c.emit-m.ensures.1)) })
+op-returns-in_default-kind t c = let way : Way c.args.io.now c.args.at c.args.kind c.if-kind-eq-NOT.not c.if-kind-eq-NOT-2.word = way_of c.args.at (elim c.if-kind-eq-NOT.branch [ op-then-kind-eq-NOT w ↦ inl (w.if-kind-eq-NOT.true, w.not-is) | op-else-kind-eq-NOT w ↦ inr (w.if-kind-eq-NOT.false, w.not-is) ]) (elim c.if-kind-eq-NOT-2.branch [ op-then-kind-eq-NOT-2 w ↦ inl (w.if-kind-eq-NOT-2.true, seen_as w.peek-word.ensures refl w.word-is) | op-else-kind-eq-NOT-2 w ↦ inr (w.if-kind-eq-NOT-2.false, w.word-is) ]) in (let n : c.if-kind-eq-NOT.not ≤ 1 = omega arith in ended c.got.ensures (omega (arith)), λ s pre b. record { does = λ a p. op_postfix a s pre c.requires.3 (omega (arith, c.if-kind-lt-NOT.false)) way c.if-not-eq1.false c.in_default.in_default-own.rest.0.0.1 c.in_default.in_default-own.rest.0.1 c.in_default.in_default-own.rest.1 c.in_default-kind.in_default-kind-own.rest.0.1 c.in_default-kind.in_default-kind-own.rest.1 (laid c.got.ensures refl (closed _ pre b c.emit-m.ensures.1)) })
 
+-- ── operand ──
 pub operand-overflow_add-at : goal.operand-overflow_add-at
 operand-overflow_add-at t c = omega arith
 
@@ -911,7 +894,7 @@ pub operand-wrong-requires : goal.operand-wrong-requires
 operand-wrong-requires t c = omega arith
 
 pub operand-sign-requires : goal.operand-sign-requires
-operand-sign-requires t c = elim c.in-36-1.branch [ operand-in-27-1 w ↦ omega arith | operand-in_default+else-kind-lt18+then-kind-lt20 w ↦ omega arith ]
+operand-sign-requires t c = omega arith
 
 pub operand-returns-in-12 : goal.operand-returns-in-12
 unfolding expr_w
@@ -931,12 +914,13 @@ operand-returns-in-51 t c = (further c.exists.ensures.0 (omega arith), λ s. rec
 
 pub operand-returns-in_default : goal.operand-returns-in_default
 unfolding expr_w
-operand-returns-in_default t c = (refused c.wrong.ensures.0 (omega arith), λ s. record { does = λ a p. at_once (λ f. left _ _ _ (isn't c.requires.2 c.in_default-1.rest.0.0.0.0.1) (left _ _ _ (isn't c.requires.2 c.in_default-1.rest.0.0.0.1) (left _ _ _ (isn't c.requires.2 c.in_default-1.rest.0.0.1) (left _ _ _ (isn't c.requires.2 c.in_default-1.rest.0.1) (left _ _ _ (by_kind (λ k. ltb 0 (prefix_of k)) c.requires.2 (elim c.in_default.branch [ operand-in_default-via-then-kind-lt18 w ↦ no_sign _ c.in_default-1.rest.1 (λ z. omega (arith, z)) | operand-in_default-via-else-kind-lt18+else-kind-lt20 w ↦ no_sign _ c.in_default-1.rest.1 (λ z. omega (arith, z)) ])) (misfit c.requires.2 c.wrong.ensures.1)))))) })
+operand-returns-in_default t c = (refused c.wrong.ensures.0 (omega arith), λ s. record { does = λ a p. at_once (λ f. left _ _ _ (isn't c.requires.2 c.in_default-1.rest.0.0.0.0.1) (left _ _ _ (isn't c.requires.2 c.in_default-1.rest.0.0.0.1) (left _ _ _ (isn't c.requires.2 c.in_default-1.rest.0.0.1) (left _ _ _ (isn't c.requires.2 c.in_default-1.rest.0.1) (left _ _ _ (by_kind (λ k. ltb 0 (prefix_of k)) c.requires.2 (no_sign _ c.in_default-1.rest.1 (λ z. omega (arith, z)))) (misfit c.requires.2 c.wrong.ensures.1)))))) })
 
 pub operand-returns-in-36 : goal.operand-returns-in-36
 unfolding expr_w
 operand-returns-in-36 t c = (further c.sign.ensures.0 (omega arith), let q : Sign c.args.kind = sign_is c.args.kind (elim c.in-36-1.branch [ operand-in-27-1 w ↦ inl w.in-27-1.keys5 | operand-in_default+else-kind-lt18+then-kind-lt20 w ↦ inr (omega arith, omega arith) ]) in λ s. record { does = λ a p. next ((c.sign.ensures.1 s).does a p) (λ f h. left _ _ _ (by_kind (λ k. eqb k 12) c.requires.2 q.paren) (left _ _ _ (by_kind (λ k. eqb k 44) c.requires.2 q.case) (left _ _ _ (by_kind (λ k. eqb k 49) c.requires.2 q.cast) (left _ _ _ (by_kind (λ k. eqb k 51) c.requires.2 q.exists) (took _ _ _ (by_kind (λ k. ltb 0 (prefix_of k)) c.requires.2 q.some) h))))) })
 
+-- ── ops ──
 pub ops-loop-kind-init : goal.ops-loop-kind-init
 unfolding expr_w
 ops-loop-kind-init t c = (omega arith, λ a s pre p b r N l. so l (λ f h. h pre b))
@@ -971,6 +955,7 @@ pub ops-returns : goal.ops-returns
 unfolding expr_w
 ops-returns t c = (ended c.got.ensures (omega arith), λ s pre b. record { does = λ a p. c.loop-kind.invariant.1 a s pre p b _ _ (at_once (λ f z e. ops_walk f a s c.loop-kind.left z c.peek-kind.ensures c.strength-k.ensures (elim c.if-k-eq0.branch [ ops-then-k-eq0 w ↦ took _ _ _ (eqb-true _ _ w.if-k-eq0.true) (laid c.got.ensures refl (nothing)) | ops-else-k-eq0+then-k-s w ↦ left _ _ _ (ne_eqb _ _ w.if-k-eq0.false) (took _ _ _ (lt-ltb c.strength-k.result s (omega (arith, (c.asked-s.ensures ∙ strength_of p), w.if-k-s.true))) (laid c.got.ensures refl (nothing))) | ops-else-k-eq0+else-k-s+then-left-k w ↦ left _ _ _ (ne_eqb _ _ w.if-k-eq0.false) (left _ _ _ (le-ltb c.strength-k.result s (omega (arith, (c.asked-s.ensures ∙ strength_of p), w.if-k-s.false))) (took _ _ _ (lt-ltb c.loop-kind.left c.strength-k.result w.if-left-k.true) (laid c.got.ensures refl (nothing)))) ]))) })
 
+-- ── paren ──
 pub paren-sub-requires : goal.paren-sub-requires
 paren-sub-requires t c = omega arith
 
@@ -979,7 +964,7 @@ paren-list-l-requires t c = omega arith
 
 pub paren-returns-in_default-l : goal.paren-returns-in_default-l
 unfolding expr_w both
-paren-returns-in_default-l t c = (passed_on c.list-l.ensures.0 c.in_default-l.is, record { does = λ a p. next (c.list-l.ensures.1.does a p) (λ f h. left _ _ _ (by_kind (λ z. both (leb 52 z) (leb z 53)) c.peek-kind.ensures (elim c.in_default.branch [ paren-in_default-via-then-kind-lt52 w ↦ between_out 52 53 c.peek-kind.result (λ z. omega (arith, z)) | paren-in_default-via-else-kind-lt52+else-kind-lt54 w ↦ between_out 52 53 c.peek-kind.result (λ z. omega (arith, z)) ])) (halts _ _ h c.in_default-l.is)) })
+paren-returns-in_default-l t c = (passed_on c.list-l.ensures.0 c.in_default-l.is, record { does = λ a p. next (c.list-l.ensures.1.does a p) (λ f h. left _ _ _ (by_kind (λ z. both (leb 52 z) (leb z 53)) c.peek-kind.ensures (between_out 52 53 c.peek-kind.result (λ z. omega (arith, z)))) (halts _ _ h c.in_default-l.is)) })
 
 pub paren-overflow_cast-n_d : goal.paren-overflow_cast-n_d
 paren-overflow_cast-n_d t c = omega (arith, got_in c.list-l.ensures.0 c.in-Got.is, c.requires, c.peek-kind.ensures)
@@ -993,8 +978,9 @@ paren-returns-in-52 t c = (further c.sub.ensures.0 (omega arith), record { does 
 
 pub paren-returns-in-Got : goal.paren-returns-in-Got
 unfolding expr_w both
-paren-returns-in-Got t c = (further c.close.ensures.0 (omega (arith, got_in c.list-l.ensures.0 c.in-Got.is, c.requires, c.peek-kind.ensures)), record { does = λ a p. next (c.list-l.ensures.1.does a p) (λ f h. left _ _ _ (by_kind (λ z. both (leb 52 z) (leb z 53)) c.peek-kind.ensures (elim c.in_default.branch [ paren-in_default-via-then-kind-lt52 w ↦ between_out 52 53 c.peek-kind.result (λ z. omega (arith, z)) | paren-in_default-via-else-kind-lt52+else-kind-lt54 w ↦ between_out 52 53 c.peek-kind.result (λ z. omega (arith, z)) ])) (goes _ _ h c.in-Got.is (λ rs F. behind _ _ F (c.close.ensures.1 (length rs) F.counted)))) })
+paren-returns-in-Got t c = (further c.close.ensures.0 (omega (arith, got_in c.list-l.ensures.0 c.in-Got.is, c.requires, c.peek-kind.ensures)), record { does = λ a p. next (c.list-l.ensures.1.does a p) (λ f h. left _ _ _ (by_kind (λ z. both (leb 52 z) (leb z 53)) c.peek-kind.ensures (between_out 52 53 c.peek-kind.result (λ z. omega (arith, z)))) (goes _ _ h c.in-Got.is (λ rs F. behind _ _ F (c.close.ensures.1 (length rs) F.counted)))) })
 
+-- ── parts ──
 pub parts-absent-m-requires : goal.parts-absent-m-requires
 parts-absent-m-requires t c = omega arith
 
@@ -1017,12 +1003,13 @@ parts-group-requires t c = omega (arith, got_in c.clause-w.ensures.0 c.in-Got-w.
 
 pub parts-returns-in_default : goal.parts-returns-in_default
 unfolding expr_w absences
-parts-returns-in_default t c = (ended c.got.ensures (omega (arith, c.requires, c.absent-m.ensures.0, c.peek-kind.ensures)), record { does = λ a p. at_second (λ f. by_walk (no_parts (kinds_of c.args.io.now) (texts_of c.args.io.now) f c.args.at a (isn't c.peek-kind.ensures (λ e. c.in_default-1.rest.1 (inl e))) (elim c.in_default.branch [ parts-in_default-via-then-kind-lt60 w ↦ isn't c.peek-kind.ensures (λ e. omega (arith, e)) | parts-in_default-via-else-kind-lt60+else-kind-lt62 w ↦ isn't c.peek-kind.ensures (λ e. omega (arith, e)) ]) (elim c.in_default.branch [ parts-in_default-via-then-kind-lt60 w ↦ isn't c.peek-kind.ensures (λ e. omega (arith, e)) | parts-in_default-via-else-kind-lt60+else-kind-lt62 w ↦ isn't c.peek-kind.ensures (λ e. omega (arith, e)) ]) (isn't c.peek-kind.ensures (λ e. c.in_default-1.rest.1 (inr e)))) (laid c.got.ensures refl c.absent-m.ensures.1)) })
+parts-returns-in_default t c = (ended c.got.ensures (omega (arith, c.requires, c.absent-m.ensures.0, c.peek-kind.ensures)), record { does = λ a p. at_second (λ f. by_walk (no_parts (kinds_of c.args.io.now) (texts_of c.args.io.now) f c.args.at a (isn't c.peek-kind.ensures (λ e. c.in_default-1.rest.1 (inl e))) (isn't c.peek-kind.ensures (λ e. omega (arith, e))) (isn't c.peek-kind.ensures (λ e. omega (arith, e))) (isn't c.peek-kind.ensures (λ e. c.in_default-1.rest.1 (inr e)))) (laid c.got.ensures refl c.absent-m.ensures.1)) })
 
 pub parts-returns-in-Got-w : goal.parts-returns-in-Got-w
 unfolding expr_w absences
 parts-returns-in-Got-w t c = (further c.group.ensures.0 (omega (arith, got_in c.clause-w.ensures.0 c.in-Got-w.is, got_in c.from-f.ensures.0 c.in-Got.is, c.requires, c.peek-kind.ensures)), record { does = λ a p. next (c.from-f.ensures.1.does a p also c.clause-w.ensures.1.does a p also c.group.ensures.1.does a p) (λ f h. goes _ _ h.0 c.in-Got.is (λ rs F. goes _ _ h.1.0 c.in-Got-w.is (λ qs G. behind _ _ (F then G) h.1.1))) })
 
+-- ── query ──
 pub query-body-b-requires : goal.query-body-b-requires
 query-body-b-requires t c = omega arith
 
@@ -1056,6 +1043,7 @@ pub query-returns : goal.query-returns
 unfolding expr_w
 query-returns t c = (ended c.got.ensures (omega (arith, got_in c.tail-t.ensures.0 c.in-Got-t.is, got_in c.body-b.ensures.0 c.in-Got.is, opens_in c.body-b.ensures.1 c.in-Got.is, c.requires, c.emit-m.ensures.0)), record { does = λ a p. next (c.body-b.ensures.2.does a p also c.tail-t.ensures.1.does _ (query_opened p refl (omega (arith, queries_of_lem p, opens_in c.body-b.ensures.1 c.in-Got.is)))) (λ f h. goes _ _ h.0 c.in-Got.is (λ rs F. goes _ _ h.1 c.in-Got-t.is (λ qs G. laid c.got.ensures refl (topped (F then G) c.emit-m.ensures.1)))) })
 
+-- ── range ──
 pub range-expr-low-requires : goal.range-expr-low-requires
 range-expr-low-requires t c = omega arith
 
@@ -1083,6 +1071,7 @@ pub range-returns : goal.range-returns
 unfolding expr_w
 range-returns t c = (ended c.got.ensures (omega (arith, got_in c.after-high.ensures.0 c.in-Got-high.is, got_in c.expr-low.ensures.0 c.in-Got.is, c.requires, c.emit-m.ensures.0)), λ s pre b. record { does = λ a p. next ((c.expr-low.ensures.1 s).does a p also (c.after-high.ensures.1 s).does a p) (λ f h. goes _ _ h.0 c.in-Got.is (λ rs F. goes _ _ h.1 c.in-Got-high.is (λ qs G. laid c.got.ensures refl (capped _ pre b (F then G) c.emit-m.ensures.1)))) })
 
+-- ── row ──
 pub row-wrong-requires : goal.row-wrong-requires
 row-wrong-requires t c = omega arith
 
@@ -1136,6 +1125,7 @@ pub row-returns : goal.row-returns
 unfolding expr_w not_b
 row-returns t c = (ended c.counted.ensures (omega (arith, got_in c.list-r.ensures.0 c.in-Got.is, c.requires, c.emit-m.ensures.0, c.if-rp-ne-RP.false, c.peek-rp.ensures, c.if-lp-ne-LP.false, c.peek-lp.ensures)), record { does = λ a p. next (c.list-r.ensures.1.does a p) (λ f h. took _ _ _ (is c.peek-lp.ensures c.if-lp-ne-LP.false) (goes _ _ h c.in-Got.is (λ rs F. took _ _ _ (is c.peek-rp.ensures c.if-rp-ne-RP.false) (left _ _ _ (elim c.if-width-gt0.branch [ row-then-width-gt0+else-n-width w ↦ no_right _ _ (ap not_b (eqb-true _ _ w.if-n-width.false)) | row-else-width-gt0 w ↦ no_left _ _ (le-ltb 0 _ w.if-width-gt0.false) ]) (laid c.counted.ensures refl (topped F c.emit-m.ensures.1)))))) })
 
+-- ── rows ──
 pub rows-loop-n_d-init : goal.rows-loop-n_d-init
 unfolding expr_w
 rows-loop-n_d-init t c = (omega arith, λ a p. loop_start)
@@ -1176,11 +1166,12 @@ pub rows-returns : goal.rows-returns
 unfolding expr_w
 rows-returns t c = (ended c.got.ensures (omega (arith, got_in c.row-r.ensures.0 c.in-Got.is, c.requires, c.emit-m.ensures.0, c.if-kind-ne-COMMA.true, c.peek-kind.ensures, c.loop-n_d.invariant)), record { does = λ a p. so ((c.loop-n_d.invariant.1 a p).on (got_of 0 (c.loop-n_d.rows + 1) _ _) _ (next (c.row-r.ensures.1.does a p) (λ f h. goes _ _ h c.in-Got.is (λ rs F. left _ _ _ (isn't c.peek-kind.ensures c.if-kind-ne-COMMA.true) (laid refl refl F))))) (λ f h. goes _ _ h refl (λ rs F. laid c.got.ensures refl (topped F c.emit-m.ensures.1))) })
 
+-- ── select ──
 pub select-overflow_add-at : goal.select-overflow_add-at
-select-overflow_add-at t c = let d : c.match-kind.detail ≤ c.peek-kind.result = elim c.match-kind.branch [ select-in-54 w ↦ omega arith | select-in-55 w ↦ omega arith | select-in_default w ↦ omega arith ] in let w : (c.if-detail-gt0.word ≤ 1) × (c.if-detail-gt0.word ≤ c.match-kind.detail) = elim c.if-detail-gt0.branch [ select-then-detail-gt0 v ↦ omega arith | select-else-detail-gt0 v ↦ omega arith ] in omega (arith)
+select-overflow_add-at t c = let d : c.match-kind.detail ≤ c.peek-kind.result = elim c.match-kind.branch [ select-in-54 w ↦ omega arith | select-in-55 w ↦ omega arith | select-in_default w ↦ omega arith ] in let w : (c.if-detail-gt0.word ≤ 1) × (c.if-detail-gt0.word ≤ c.match-kind.detail) = omega arith in omega (arith)
 
 pub select-cols-l-requires : goal.select-cols-l-requires
-select-cols-l-requires t c = let d : c.match-kind.detail ≤ c.peek-kind.result = elim c.match-kind.branch [ select-in-54 w ↦ omega arith | select-in-55 w ↦ omega arith | select-in_default w ↦ omega arith ] in let w : (c.if-detail-gt0.word ≤ 1) × (c.if-detail-gt0.word ≤ c.match-kind.detail) = elim c.if-detail-gt0.branch [ select-then-detail-gt0 v ↦ omega arith | select-else-detail-gt0 v ↦ omega arith ] in omega (arith)
+select-cols-l-requires t c = let d : c.match-kind.detail ≤ c.peek-kind.result = elim c.match-kind.branch [ select-in-54 w ↦ omega arith | select-in-55 w ↦ omega arith | select-in_default w ↦ omega arith ] in let w : (c.if-detail-gt0.word ≤ 1) × (c.if-detail-gt0.word ≤ c.match-kind.detail) = omega arith in omega (arith)
 
 pub select-returns-in_default-l : goal.select-returns-in_default-l
 unfolding expr_w
@@ -1218,6 +1209,7 @@ pub select-returns : goal.select-returns
 unfolding expr_w
 select-returns t c = (ended c.got.ensures (omega (arith, got_in c.parts-f.ensures.0 c.in-Got-f.is, c.emit-m.ensures.0, c.emit-listed.ensures.0, got_in c.cols-l.ensures.0 c.in-Got.is, c.requires, c.peek-kind.ensures)), record { does = λ a p. next (next (c.cols-l.ensures.1.does a p also c.parts-f.ensures.1.does a p) (λ f h. goes _ _ h.0 c.in-Got.is (λ rs F. goes _ _ h.1 c.in-Got-f.is (λ qs G. laid c.got.ensures refl (topped (topped F c.emit-listed.ensures.1 then G) c.emit-m.ensures.1))))) (λ f h. by_walk (select_walk (kinds_of c.args.io.now) (texts_of c.args.io.now) f c.args.at a c.match-kind.detail c.if-detail-gt0.word (elim c.match-kind.branch [ select-in-54 w ↦ inl (is c.peek-kind.ensures w.in-54.is, w.detail-is) | select-in-55 w ↦ inr (inl (differs _ c.peek-kind.ensures w.in-55.is refl, is c.peek-kind.ensures w.in-55.is, w.detail-is)) | select-in_default w ↦ inr (inr (isn't c.peek-kind.ensures w.in_default.in_default-own.rest.0.1, isn't c.peek-kind.ensures w.in_default.in_default-own.rest.1, w.detail-is)) ]) (elim c.if-detail-gt0.branch [ select-then-detail-gt0 w ↦ inl (w.if-detail-gt0.true, w.word-is) | select-else-detail-gt0 w ↦ inr (w.if-detail-gt0.false, w.word-is) ])) h) })
 
+-- ── sign ──
 pub sign-wrong-requires : goal.sign-wrong-requires
 sign-wrong-requires t c = omega arith
 
@@ -1257,6 +1249,7 @@ pub sign-returns : goal.sign-returns
 unfolding expr_w
 sign-returns t c = (let s : c.prefix-p.result ≤ 11 = rw c.prefix-p.ensures (prefix_small _) in ended c.got.ensures (omega (arith, c.least.ensures, got_in c.expr-r.ensures.0 c.in-Got.is, c.emit-m.ensures.0, c.requires)), λ s. record { does = λ a p. next ((c.expr-r.ensures.1 c.prefix-p.result).does (deeper a) (c.deeper.ensures.1.packs a s p)) (λ f h. prefix_walk f a s c.requires.3 c.prefix-p.ensures (left _ _ _ (elim c.if-kind-eq-NOT.branch [ sign-then-kind-eq-NOT+else-asked-gt-NOT_STANDS w ↦ no_right _ _ (le-ltb 10 s (omega (arith, strength_of p, w.asked.ensures, w.if-asked-gt-NOT_STANDS.false))) | sign-else-kind-eq-NOT w ↦ no_left _ _ (ne_eqb _ _ w.if-kind-eq-NOT.false) ]) (goes _ _ h c.in-Got.is (λ rs F. laid_as c.got.ensures c.least.ensures refl (topped F c.emit-m.ensures.1))))) })
 
+-- ── sort ──
 pub sort-wrong-requires : goal.sort-wrong-requires
 sort-wrong-requires t c = omega arith
 
@@ -1323,12 +1316,14 @@ pub sort-returns : goal.sort-returns
 unfolding expr_w
 sort-returns t c = (ended c.got.ensures (omega (arith, got_in c.way-w.ensures.0 c.in-Got-w.is, got_in c.expr-r.ensures.0 c.in-Got.is, c.requires, c.emit-m.ensures.0, c.if-kind-ne-COMMA.true, c.peek-kind.ensures, c.emit-made.ensures.0, c.loop-d.invariant, c.if-by-ne-BY.false, c.peek-by.ensures)), record { does = λ a p. next ((c.loop-d.invariant.1 a p).on (got_of 0 (c.loop-d.n + 1) _ _) _ (next ((c.expr-r.ensures.1 1).does a p) (λ f h. goes _ _ h c.in-Got.is (λ rs F. goes _ _ c.way-w.ensures.1 c.in-Got-w.is (λ os O. left _ _ _ (isn't c.peek-kind.ensures c.if-kind-ne-COMMA.true) (laid refl refl (topped F c.emit-made.ensures.1))))))) (λ f h. took _ _ _ (is c.peek-by.ensures c.if-by-ne-BY.false) (goes _ _ h refl (λ rs F. laid c.got.ensures refl (topped F c.emit-m.ensures.1)))) })
 
+-- ── source ──
 pub source-src-requires : goal.source-src-requires
 source-src-requires t c = omega arith
 
 pub source-returns : goal.source-returns
 source-returns t c = c.src.ensures
 
+-- ── src ──
 pub src-table-requires : goal.src-table-requires
 src-table-requires t c = omega arith
 
@@ -1356,6 +1351,7 @@ pub src-returns : goal.src-returns
 unfolding expr_w
 src-returns t c = (further c.lent.ensures.0 (omega (arith, got_in c.query-q.ensures.0 c.in-Got.is, c.requires, c.if-kind-ne-LP.false, c.peek-kind.ensures)), record { does = λ a p. next (c.query-q.ensures.1.does a (c.asking.ensures.3.packs a 1 p)) (λ f h. took _ _ _ (is c.peek-kind.ensures c.if-kind-ne-LP.false) (goes _ _ h c.in-Got.is (λ rs F. c.lent.ensures.1 _ rs F))) })
 
+-- ── sub ──
 pub sub-asking-requires : goal.sub-asking-requires
 sub-asking-requires t c = omega arith
 
@@ -1373,6 +1369,7 @@ pub sub-returns : goal.sub-returns
 unfolding expr_w
 sub-returns t c = (further c.close.ensures.0 (omega (arith, got_in c.query-q.ensures.0 c.in-Got.is, c.requires)), record { does = λ a p. next (c.query-q.ensures.1.does a (c.asking.ensures.3.packs a 1 p)) (λ f h. goes _ _ h c.in-Got.is (λ rs F. behind _ _ F (c.close.ensures.1 (length rs) F.counted))) })
 
+-- ── tail ──
 pub tail-overflow_add-at : goal.tail-overflow_add-at
 tail-overflow_add-at t c = omega arith
 
@@ -1407,6 +1404,7 @@ pub tail-returns-in_default : goal.tail-returns-in_default
 unfolding expr_w absences
 tail-returns-in_default t c = (ended c.got.ensures (omega arith), record { does = λ a p. at_second (λ f. by_walk (no_tail (kinds_of c.args.io.now) (texts_of c.args.io.now) f c.args.at a (isn't c.peek-kind.ensures c.in_default.in_default-own.rest.0.1) (isn't c.peek-kind.ensures c.in_default.in_default-own.rest.1)) (laid c.got.ensures refl c.absent-m-in_default.ensures.1)) })
 
+-- ── when ──
 pub when-loop-c-init : goal.when-loop-c-init
 unfolding expr_w
 when-loop-c-init t c = (omega arith, λ a p. loop_start)

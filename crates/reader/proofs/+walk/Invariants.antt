@@ -1,3 +1,5 @@
+-- Measures: what is left of the tokens, and a rank. Invariants: the bounds, and the walk so far.
+-- Assumes nothing.
 use Rattle.reader.specs.Bounds.{rank}
 use Prim.Native.Nat.{ℕ, ◌+◌, ◌≤◌, ◌*◌, ◌-◌}
 use Rattle.reader.proofs.Laying.{left}

@@ -1,3 +1,5 @@
+-- The writer's functions that call each other, one cycle: each writes the tokens of what it is given (scribe/proofs/Parts.antt), made from
+-- its callees' by proofs/Moves.antt. Function by function; a goal that has no answer here the check proves by itself. Assumes nothing.
 use Rattle.writer.proofs.Leaves.{detail_of, code_of, backs_most, code_at_lem, children_at_lem, before_most}
 use Rattle.writer.proofs.Said.{spell_at, expr_term, is_absent, is_there, part_join, more_most}
 use Rattle.writer.specs.Pages.{nodes_of}
@@ -23,8 +25,9 @@ use Rattle.scribe.proofs.Clauses.{may_here, clause_gone, clause_here, no_from, s
 use Rattle.scribe.proofs.Turns.{along_start, along_turn, bare_ends, bare_operand, bare_goes, from_yet, from_part, joined_more, joined_done, row_yet, many_last, parted_more, parted_final, parted_done, rows_yet, rows_more, rows_final, rows_done, case_yet, case_result, case_condition, case_more, case_base_at, case_done}
 use Rattle.kinds.specs.Strength.{prefix_of}
 use Rattle.writer.proofs.+spelling.Goals as goal
-use Rattle.writer.proofs.+spelling.Goals.{operand-in_default-via-else-c-lt31+else-c-lt36, operand-in_default-via-then-c-lt31, rest-in_default-via-else-c-lt41+else-c-lt43, rest-in_default-via-then-c-lt41}
+use Rattle.writer.proofs.+spelling.Goals.{operand-in_default-via-else-c-lt31+else-c-lt36, operand-in_default-via-then-c-lt31}
 
+-- ── args ──
 pub args-returns-then-d-eq-STAR_CALL : goal.args-returns-then-d-eq-STAR_CALL
 args-returns-then-d-eq-STAR_CALL t c = record { told = λ w. puts_as (args_star w (sym (detail_of w.whole c.detail-d.ensures) ∙ c.if-d-eq-STAR_CALL.true)) c.word.ensures }
 
@@ -34,6 +37,7 @@ args-list-l-requires t c = (omega (arith, c.requires.0, (known c.requires.1.whol
 pub args-returns : goal.args-returns
 args-returns t c = record { told = λ w. let k = args_list w (λ e. c.if-d-eq-STAR_CALL.false (detail_of w.whole c.detail-d.ensures ∙ e)) in puts_as (k.1 ∙ ap (λ z. choose (eqb z 1) (tok DISTINCT ∷ []) [] ++ terms_toks (nodes_of c.args.io.now) (c.args.i - 1) (any_terms k.0)) (sym (detail_of w.whole c.detail-d.ensures))) (c.word_if.ensures after spell_at c.last.ensures c.list-l.ensures (any_terms k.0)) }
 
+-- ── body ──
 pub body-select-requires : goal.body-select-requires
 body-select-requires t c = (omega (arith, c.requires.0), (c.requires.0, coded c.requires.1 (sym (code_of c.requires.1 c.code.ensures) ∙ c.if-code-eq-SELECT.true)))
 
@@ -46,6 +50,7 @@ body-values-requires t c = (omega (arith, c.requires.0), (c.requires.0, coded c.
 pub body-returns : goal.body-returns
 body-returns t c = record { told = λ w. c.values.ensures.told (coded w (⊎_elim (λ e. absurd (c.if-code-eq-SELECT.false (code_of w c.code.ensures ∙ e))) (λ e. e) (body_is w))) }
 
+-- ── bounds ──
 pub bounds-expr-h-requires : goal.bounds-expr-h-requires
 unfolding backs
 bounds-expr-h-requires t c = (omega (arith, c.requires.0, (known c.requires.1.whole).there, c.last.ensures), (c.requires.0, subst⁻¹ (Term (nodes_of c.args.io.now)) c.last.ensures (expr_term (between_kids c.requires.1.whole c.requires.1.is).third)))
@@ -58,6 +63,7 @@ pub bounds-returns : goal.bounds-returns
 unfolding backs
 bounds-returns t c = bounds_by c.detail.ensures c.maybe_not.ensures c.child.ensures c.expr-l.ensures c.word-a.ensures c.last.ensures c.expr-h.ensures
 
+-- ── by ──
 pub by-returns-then-children-eq0 : goal.by-returns-then-children-eq0
 by-returns-then-children-eq0 t c = perhaps_none c.args.kind c.children.ensures c.if-children-eq0.true nothing_put
 
@@ -67,6 +73,7 @@ by-list-l-requires t c = (omega (arith, c.requires.0), (c.requires.0, perhaps_te
 pub by-returns : goal.by-returns
 by-returns t c = perhaps_some c.args.kind c.children.ensures c.if-children-eq0.false (λ t. c.words.ensures after c.list-l.ensures.told t)
 
+-- ── call ──
 pub call-args-a-requires : goal.call-args-a-requires
 unfolding backs
 call-args-a-requires t c = (omega (arith, c.requires.0), c.requires)
@@ -75,6 +82,7 @@ pub call-returns : goal.call-returns
 unfolding backs
 call-returns t c = record { told = λ w. puts_as (call_said w) (spell_at c.child.ensures c.name.ensures (call_name_lem w) after c.word-l.ensures after c.args-a.ensures.told w after c.word-r.ensures) }
 
+-- ── case ──
 pub case-clause-l-requires : goal.case-clause-l-requires
 case-clause-l-requires t c = (omega (arith, c.requires.0, (known c.requires.1.whole).there, c.last.ensures), (c.requires.0, subst⁻¹ (Maybe an_expr (nodes_of c.args.io.now)) c.last.ensures (case_kids c.requires.1.whole c.requires.1.is).otherwise))
 
@@ -84,6 +92,7 @@ case-whens-w-requires t c = (omega (arith, c.requires.0), c.requires)
 pub case-returns : goal.case-returns
 case-returns t c = record { told = λ w. puts_as (case_said w) (c.word.ensures after c.whens-w.ensures.told w after spell_at c.last.ensures c.clause-l.ensures (case_kids w.whole w.is).otherwise after c.word-e.ensures) }
 
+-- ── cast ──
 pub cast-expr-e-requires : goal.cast-expr-e-requires
 unfolding backs
 cast-expr-e-requires t c = (omega (arith, c.requires.0, (known c.requires.1.whole).there, c.child.ensures, backs_most (nodes_of c.args.io.now) 1 (c.args.i - 1)), (c.requires.0, subst⁻¹ (Term (nodes_of c.args.io.now)) c.child.ensures (expr_term (cast_first c.requires.1))))
@@ -92,6 +101,7 @@ pub cast-returns : goal.cast-returns
 unfolding backs
 cast-returns t c = record { told = λ w. puts_as (cast_said w) (c.words.ensures after spell_at c.child.ensures c.expr-e.ensures (expr_term (cast_first w)) after spell_at c.last.ensures c.alias-a.ensures (cast_type w) after c.word-r.ensures) }
 
+-- ── clause ──
 pub clause-returns-then-code-eq-ABSENT : goal.clause-returns-then-code-eq-ABSENT
 clause-returns-then-code-eq-ABSENT t c = record { told = λ m. puts_as (clause_gone refl (tok c.args.kind ∷ []) m (is_absent m c.code.ensures c.if-code-eq-ABSENT.true)) nothing_put }
 
@@ -101,6 +111,7 @@ clause-expr-e-requires t c = (omega (arith, c.requires.0), (c.requires.0, expr_t
 pub clause-returns : goal.clause-returns
 clause-returns t c = record { told = λ m. let k = clause_here refl (tok c.args.kind ∷ []) m (is_there m c.code.ensures c.if-code-eq-ABSENT.false) in puts_as (k.1 ∙ ap (λ z. tok c.args.kind ∷ z) (sym (at_zero (piece_at k.0)))) (c.word.ensures after c.expr-e.ensures.told (expr_term k.0)) }
 
+-- ── constraint ──
 pub constraint-on-requires : goal.constraint-on-requires
 constraint-on-requires t c = (omega (arith, c.requires.0, c.last.ensures, part_there c.requires.1), (c.requires.0, subst⁻¹ (Maybe a_constraint (nodes_of c.args.io.now)) c.last.ensures (part_on (part_join c.code.ensures c.requires.1 c.if-code-eq-JOIN.true))))
 
@@ -110,6 +121,7 @@ constraint-returns-then-code-eq-JOIN t c = constraint_on c.code.ensures c.if-cod
 pub constraint-returns : goal.constraint-returns
 constraint-returns t c = constraint_none c.code.ensures c.if-code-eq-JOIN.false nothing_put
 
+-- ── ex ──
 pub ex-loop-out-init : goal.ex-loop-out-init
 ex-loop-out-init t c = (omega arith, refl, λ t. along_start t)
 
@@ -131,12 +143,14 @@ ex-loop-out-smaller t c = omega (arith, c.first-i.ensures.most, c.bare-i.ensures
 pub ex-loop-out-preserved : goal.ex-loop-out-preserved
 ex-loop-out-preserved t c = (omega (arith, c.loop-out.invariant.0, more_most (ltb c.strength-k.result c.loop-out.s) c.loop-out.pairs c.one_more-pairs.ensures, c.first-i.ensures.most, c.bare-i.ensures.most, (known (along_turn (c.loop-out.invariant.2 c.requires.1) c.bare-i.ensures.told (strength_at (c.strength-k.ensures c.requires.0).0 c.code-c.ensures c.detail.ensures) c.word_if-to.ensures c.one_more-pairs.ensures).it.whole).there), c.rest-to.auto.out ∙ c.word_if-to.auto.out ∙ c.loop-out.invariant.1, λ t. let b = (along_turn (c.loop-out.invariant.2 t) c.bare-i.ensures.told (strength_at (c.strength-k.ensures c.requires.0).0 c.code-c.ensures c.detail.ensures) c.word_if-to.ensures c.one_more-pairs.ensures) in bare_goes b (c.rest-to.ensures.told b.it (ap leads_of (sym (code_of b.it.whole c.code-c.ensures)) ∙ sym c.leads.ensures ∙ c.if-not-leads.false) ((strength_at (c.strength-k.ensures c.requires.0).0 c.code-c.ensures c.detail.ensures) b.it)) ((strength_at (c.strength-k.ensures c.requires.0).0 c.code-c.ensures c.detail.ensures) b.it) (c.first-i.ensures.is (known b.it.whole).there))
 
+-- ── expr ──
 pub expr-ex-requires : goal.expr-ex-requires
 expr-ex-requires t c = (omega (arith, c.requires.0), c.requires)
 
 pub expr-returns : goal.expr-returns
 expr-returns t c = c.ex.ensures
 
+-- ── from ──
 pub from-returns-then-n-eq0 : goal.from-returns-then-n-eq0
 from-returns-then-n-eq0 t c = record { told = λ m. puts_as (no_from m (sym (children_at_lem c.children-n.ensures (may_there m).0) ∙ c.if-n-eq0.true)) nothing_put }
 
@@ -158,6 +172,7 @@ from-loop-n-preserved t c = (let h = c.loop-n.invariant.0 in let e = c.before-j.
 pub from-returns : goal.from-returns
 from-returns t c = record { told = λ m. let k = some_from m (λ e. c.if-n-eq0.false (children_at_lem c.children-n.ensures (may_there m).0 ∙ e)) in puts_as (ap (λ z. z.toks) k.1 ∙ (from_spelt k.0 (from_is k.0)).toks) (c.word.ensures after joined_done (c.loop-n.invariant.2 k.0) c.loop-n-test.false) }
 
+-- ── group ──
 pub group-clause-h-requires : goal.group-clause-h-requires
 unfolding backs
 group-clause-h-requires t c = (omega (arith, c.requires.0, (known c.requires.1.whole).there, c.last.ensures), (c.requires.0, subst⁻¹ (Maybe an_expr (nodes_of c.args.io.now)) c.last.ensures (select_kids c.requires.1.whole c.requires.1.is).fifth))
@@ -170,6 +185,7 @@ pub group-returns : goal.group-returns
 unfolding backs
 group-returns t c = record { told = λ w. let k = select_kids w.whole w.is in let g = group_perhaps k.fourth in puts_as (ap (λ z. z ++ may_toks an_expr (tok HAVING ∷ []) (nodes_of c.args.io.now) (c.args.i - 1) k.fifth) g.1) (spell_at c.child.ensures c.by.ensures g.0 after spell_at c.last.ensures c.clause-h.ensures k.fifth) }
 
+-- ── inner ──
 pub inner-query-requires : goal.inner-query-requires
 inner-query-requires t c = (omega (arith, c.requires.0), (c.requires.0, inner_query c.requires.1 (sym (code_at_lem c.code.ensures (inner_there c.requires.1)) ∙ c.if-code-eq-QUERY.true)))
 
@@ -182,6 +198,7 @@ inner-list-requires t c = (omega (arith, c.requires.0), (c.requires.0, inner_ter
 pub inner-returns : goal.inner-returns
 inner-returns t c = inner_t (λ e. c.if-code-eq-QUERY.false (code_at_lem c.code.ensures (inner_there c.requires.1) ∙ e)) c.list.ensures
 
+-- ── joining ──
 pub joining-constraint-o-requires : goal.joining-constraint-o-requires
 joining-constraint-o-requires t c = (omega (arith, c.requires.0), c.requires)
 
@@ -191,6 +208,7 @@ joining-source-s-requires t c = (omega (arith, c.requires.0, c.taken.ensures.mos
 pub joining-returns : goal.joining-returns
 joining-returns t c = record { told = λ p. puts_as (part_said p) (c.joined.ensures.told p after spell_at (c.taken.ensures.is p) c.source-s.ensures (part_src p) after c.constraint-o.ensures.told p) }
 
+-- ── limit ──
 pub limit-clause-o-requires : goal.limit-clause-o-requires
 unfolding backs
 limit-clause-o-requires t c = (omega (arith, c.requires.0, (known c.requires.1.whole).there, c.last.ensures), (c.requires.0, subst⁻¹ (Maybe an_expr (nodes_of c.args.io.now)) c.last.ensures (query_kids c.requires.1.whole c.requires.1.is).fourth))
@@ -203,6 +221,7 @@ pub limit-returns : goal.limit-returns
 unfolding backs
 limit-returns t c = record { told = λ w. spell_at c.child.ensures c.clause.ensures (query_kids w.whole w.is).third after spell_at c.last.ensures c.clause-o.ensures (query_kids w.whole w.is).fourth }
 
+-- ── list ──
 pub list-loop-n-init : goal.list-loop-n-init
 list-loop-n-init t c = (omega (arith, c.requires.1.row.there, c.last-j.ensures), refl, λ t. row_yet _ t.row (children_at_lem c.children-n.ensures t.row.there) c.last-j.ensures)
 
@@ -227,6 +246,7 @@ list-loop-n-preserved t c = (let h = c.loop-n.invariant.0 in let e = c.before-j.
 pub list-returns : goal.list-returns
 list-returns t c = record { told = λ t. parted_done _ (c.loop-n.invariant.2 t) c.loop-n-test.false }
 
+-- ── on ──
 pub on-clause-requires : goal.on-clause-requires
 on-clause-requires t c = (omega (arith, c.requires.0, c.last.ensures, (may_there c.requires.1).0), (c.requires.0, subst⁻¹ (Maybe an_expr (nodes_of c.args.io.now)) c.last.ensures (inl (on_said c.code-c.ensures c.in-10.is c.requires.1).0)))
 
@@ -239,6 +259,7 @@ on-returns-in-11 t c = record { told = λ m. let k = using_said c.code-c.ensures
 pub on-returns-in_default : goal.on-returns-in_default
 on-returns-in_default t c = record { told = λ m. puts_as (on_none c.code-c.ensures c.in_default.in_default-own.rest.0.1 c.in_default.in_default-own.rest.1 m) nothing_put }
 
+-- ── operand ──
 pub operand-returns-then-c-lt-NAMES : goal.operand-returns-then-c-lt-NAMES
 operand-returns-then-c-lt-NAMES t c = record { told = λ t. (c.leaf.ensures c.requires.2).told (operand_leaf t c.requires.2 c.if-c-lt-NAMES.true) }
 
@@ -281,12 +302,14 @@ operand-returns-in-34 t c = record { told = λ t. let k = sub_said t c.requires.
 pub operand-returns-in_default : goal.operand-returns-in_default
 operand-returns-in_default t c = record { told = λ t. c.prefix.ensures.told (coded t.it.whole (operand_prefix t c.requires.2 (elim c.in_default.branch [ operand-in_default-via-then-c-lt31 w ↦ absurd (omega arith) | operand-in_default-via-else-c-lt31+else-c-lt36 w ↦ omega (arith, c.in_default-1.rest.0.1, c.in_default-1.rest.1) ]))) }
 
+-- ── prefix ──
 pub prefix-expr-t-requires : goal.prefix-expr-t-requires
 prefix-expr-t-requires t c = (omega (arith, c.requires.0, (known c.requires.1.whole).there, c.last.ensures), (c.requires.0, subst⁻¹ (Term (nodes_of c.args.io.now)) c.last.ensures (expr_term (prefix_kids c.requires.1.whole c.requires.1.is).first)))
 
 pub prefix-returns : goal.prefix-returns
 prefix-returns t c = record { told = λ w. let k = prefix_kids w.whole w.is in puts_as ((prefix_spelt w.whole w.is k).toks ∙ ap₂ (λ x y. tok x ∷ at y (piece_at k.first)) (sym (detail_of w.whole c.detail-d.ensures)) (ap prefix_of (sym (detail_of w.whole c.detail-d.ensures)) ∙ sym c.prefix.ensures)) (c.word.ensures after spell_at c.last.ensures c.expr-t.ensures (expr_term k.first)) }
 
+-- ── query ──
 pub query-limit-l-requires : goal.query-limit-l-requires
 unfolding backs
 query-limit-l-requires t c = (omega (arith, c.requires.0), c.requires)
@@ -303,6 +326,7 @@ pub query-returns : goal.query-returns
 unfolding backs
 query-returns t c = record { told = λ w. let k = query_kids w.whole w.is in let o = order_perhaps k.second in puts_as ((query_spelt w.whole w.is k).toks ∙ ap (λ z. (piece_at k.first).toks ++ (z ++ limit_toks (nodes_of c.args.io.now) c.args.i w)) o.1) (spell_at c.child-2.ensures c.body.ensures k.first after spell_at c.child.ensures c.by-o.ensures o.0 after c.limit-l.ensures.told w) }
 
+-- ── rest ──
 pub rest-overflow_add-k : goal.rest-overflow_add-k
 rest-overflow_add-k t c = omega (arith, c.requires.2)
 
@@ -325,8 +349,9 @@ pub rest-returns-in-41 : goal.rest-returns-in-41
 rest-returns-in-41 t c = trails_in c.code-c.ensures c.in-41.if-c-lt41-own.false c.in-41.if-c-lt43-own.true c.detail-in-41.ensures c.maybe_not.ensures c.last-in-41.ensures c.within-l.ensures
 
 pub rest-returns-in_default : goal.rest-returns-in_default
-rest-returns-in_default t c = record { told = λ t l q. c.after.ensures.told t l (code_of t.whole c.code-c.ensures) c.in_default-1.rest.0.1 c.in_default-1.rest.1 (λ e. elim c.in_default.branch [ rest-in_default-via-then-c-lt41 w ↦ absurd (omega (arith, e)) | rest-in_default-via-else-c-lt41+else-c-lt43 w ↦ absurd (omega (arith, e)) ]) (λ e. elim c.in_default.branch [ rest-in_default-via-then-c-lt41 w ↦ absurd (omega (arith, e)) | rest-in_default-via-else-c-lt41+else-c-lt43 w ↦ absurd (omega (arith, e)) ]) }
+rest-returns-in_default t c = record { told = λ t l q. c.after.ensures.told t l (code_of t.whole c.code-c.ensures) c.in_default-1.rest.0.1 c.in_default-1.rest.1 (λ e. absurd (omega (arith, e))) (λ e. absurd (omega (arith, e))) }
 
+-- ── select ──
 pub select-tail-t-requires : goal.select-tail-t-requires
 unfolding backs
 select-tail-t-requires t c = (omega (arith, c.requires.0), c.requires)
@@ -339,6 +364,7 @@ pub select-returns : goal.select-returns
 unfolding backs
 select-returns t c = record { told = λ w. let k = select_kids w.whole w.is in puts_as ((select_spelt w.whole w.is k).toks ∙ ap₂ (λ x y. tok SELECT ∷ (choose (eqb x 1) (tok DISTINCT ∷ []) [] ++ (y ++ tail_toks (nodes_of c.args.io.now) c.args.i w))) (sym (detail_of w.whole c.detail.ensures)) (list_toks refl k.first)) (c.selected.ensures after spell_at c.child.ensures c.list-c.ensures (list_terms refl k.first) after c.tail-t.ensures.told w) }
 
+-- ── source ──
 pub source-returns-then-code-eq-TABLE : goal.source-returns-then-code-eq-TABLE
 unfolding backs
 source-returns-then-code-eq-TABLE t c = record { told = λ w. c.table.ensures.told (coded w (sym (code_of w c.code.ensures) ∙ c.if-code-eq-TABLE.true)) }
@@ -351,6 +377,7 @@ pub source-returns : goal.source-returns
 unfolding backs
 source-returns t c = record { told = λ w. let k = query_source_kids w (⊎_elim (λ e. absurd (c.if-code-eq-TABLE.false (code_of w c.code.ensures ∙ e))) (λ e. e) (source_is w)) in puts_as (query_source_spelt w (⊎_elim (λ e. absurd (c.if-code-eq-TABLE.false (code_of w c.code.ensures ∙ e))) (λ e. e) (source_is w)) k).toks (spell_at c.child.ensures c.within.ensures (in_query k.first) after spell_at c.last.ensures c.alias-a.ensures k.second) }
 
+-- ── tail ──
 pub tail-group-g-requires : goal.tail-group-g-requires
 unfolding backs
 tail-group-g-requires t c = (omega (arith, c.requires.0), c.requires)
@@ -367,6 +394,7 @@ pub tail-returns : goal.tail-returns
 unfolding backs
 tail-returns t c = record { told = λ w. spell_at c.child-2.ensures c.from.ensures (select_kids w.whole w.is).second after spell_at c.child.ensures c.clause-w.ensures (select_kids w.whole w.is).third after c.group-g.ensures.told w }
 
+-- ── values ──
 pub values-loop-n-init : goal.values-loop-n-init
 values-loop-n-init t c = (omega (arith, (known c.requires.1.whole).there, c.last-j.ensures), refl, λ w. rows_yet w (children_at_lem c.children-n.ensures (known w.whole).there) c.last-j.ensures)
 
@@ -391,6 +419,7 @@ values-loop-n-preserved t c = (let h = c.loop-n.invariant.0 in let e = c.before-
 pub values-returns : goal.values-returns
 values-returns t c = record { told = λ w. puts_as (values_spelt w.whole w.is).toks (c.word.ensures after rows_done (c.loop-n.invariant.2 w) c.loop-n-test.false) }
 
+-- ── whens ──
 pub whens-loop-n-init : goal.whens-loop-n-init
 whens-loop-n-init t c = (omega (arith, (known c.requires.1.whole).there, c.child-j.ensures, backs_most (nodes_of c.args.io.now) 1 (c.args.i - 1)), refl, λ w. case_yet w (children_at_lem c.children-n.ensures (known w.whole).there) c.child-j.ensures)
 
@@ -418,6 +447,7 @@ whens-expr-requires t c = (omega (arith, c.requires.0, c.loop-n.invariant.0), (c
 pub whens-returns : goal.whens-returns
 whens-returns t c = record { told = λ w. case_done (c.loop-n.invariant.2 w) c.loop-n-test.false (λ m. let k = may_here refl m (is_there m c.code.ensures c.if-code-eq-ABSENT.false) in puts_as (ap (λ z. z.toks) k.1 ∙ sym (at_zero (piece_at k.0))) (c.expr.ensures.told (expr_term k.0))) }
 
+-- ── within ──
 pub within-inner-t-requires : goal.within-inner-t-requires
 within-inner-t-requires t c = (omega (arith, c.requires.0), c.requires)
 

@@ -1,3 +1,5 @@
+-- Measures: the record, and a rank. Invariants: the bounds, and the walk so far: what was written, and what is yet to be.
+-- Assumes nothing.
 use Rattle.writer.specs.Pages.{rank}
 use Rattle.writer.specs.Pages.{nodes_of, lane_in}
 use Rattle.scribe.proofs.Parts.{Terms, terms_toks, Term, Along, Yet, Many, Coded, whens_toks}
