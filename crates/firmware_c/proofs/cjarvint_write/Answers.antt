@@ -1,0 +1,5 @@
+-- The call promises what the function of this name in `firmware` promises. Assumes nothing.
+use Rattle.firmware_c.proofs.cjarvint_write.Goals as goal
+
+pub returns : goal.returns
+returns c = c.cjarvint_write.ensures
