@@ -2,6 +2,8 @@
 // Whoever tests a kind asks here; no other crate tests one by its number.
 #![tactic(auto)]
 
+pub mod node;
+
 ghost use Rattle.std.specs.Prelude.{◌≡◌};
 ghost use Rattle.kinds.specs.Classes.{is_name, is_bare_alias, is_literal, heads_call, begins_expr, reads_text, is_binary, name_code, literal_code};
 ghost use Rattle.kinds.specs.Fit.{fits};
@@ -351,10 +353,10 @@ pub fn name_code(kind: u32) -> u32
     ensures { result ≡ name_code kind }
 {
     match kind {
-        ID..=KWID => 20,
-        STRING => 21,
-        INDEXED => 22,
-        JOIN_KW => 23,
+        ID..=KWID => node::ID,
+        STRING => node::STRING_NAME,
+        INDEXED => node::INDEXED_NAME,
+        JOIN_KW => node::JOIN_NAME,
         _ => 0,
     }
 }
@@ -364,13 +366,13 @@ pub fn literal_code(kind: u32) -> u32
     ensures { result ≡ literal_code kind }
 {
     match kind {
-        INTEGER => 24,
-        FLOAT => 25,
-        STRING => 26,
-        BLOB => 27,
-        VARIABLE => 28,
-        CTIME_KW => 29,
-        NULL => 30,
+        INTEGER => node::INTEGER,
+        FLOAT => node::FLOAT,
+        STRING => node::STRING,
+        BLOB => node::BLOB,
+        VARIABLE => node::VARIABLE,
+        CTIME_KW => node::CTIME,
+        NULL => node::NULL,
         _ => 0,
     }
 }

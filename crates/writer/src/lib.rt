@@ -5,8 +5,6 @@
 // table of strengths, and a list that is empty where the kinds are written.
 #![tactic(auto)]
 
-mod node;
-
 ghost use Rattle.std.specs.Prelude.{◌≡◌, [], ◌∷◌, ◌++◌, ◌+◌, ◌-◌, ◌%◌, ◌/◌, ◌<◌, ◌≤◌, length};
 ghost use Rattle.grammar.specs.Sizes.{WIDTH};
 ghost use Rattle.grammar.specs.NodeNames.{node_query, node_select, node_values, node_table, node_call, node_case, node_cast, node_prefix, node_between};
@@ -25,6 +23,7 @@ ghost use Rattle.scribe.proofs.Parts.{Spells, Coded, Term, Operand, Terms, Insid
 ghost use Rattle.reader.specs.Answers.{number, place, Plain};
 ghost use Rattle.writer.specs.Pages.{nodes_of, Ruled, Field, First, Bared, Taken, Wrote, Writ, Trails, Closes, Bounds, MOST, Walks};
 
+use kinds::node;
 use kinds::{
     AND, AS, BETWEEN, BLOB, BY, CASE, CAST, COLLATE, COMMA, CTIME_KW, DESC, DISTINCT, DOT, ELSE,
     END, EXISTS, FIRST, FLOAT, FROM, GROUP, HAVING, ID, IN, INDEXED, INTEGER, IS, JOIN, JOIN_KW,

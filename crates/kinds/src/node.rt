@@ -1,4 +1,5 @@
-// The codes of 01's records by name, and what the details of some say.
+// The codes of document 01's records by name, and what the details of some say. Numbers, not an enum: records lie in the table that a
+// caller lends as numbers, and are told apart by ranges of them.
 pub const ABSENT: u32 = 0;
 
 pub const QUERY: u32 = 1;
