@@ -1,8 +1,8 @@
 -- From what the two walks of a call lay to the promise: of lists that are lent and fit. few_refused, few_got: from their bounds to what the
 -- places are within. Assumes nothing.
 use mathlib.Core.Bool.{Bool, true, false}
-use mathlib.Core.List.{List, [], ◌∷◌}
-use mathlib.Core.Path.{◌≡◌, refl, sym, ap, ◌∙◌, subst, subst⁻¹}
+use mathlib.Core.List.{List, []}
+use mathlib.Core.Path.{◌≡◌, sym, ap, ◌∙◌, subst, subst⁻¹}
 use Prim.Native.Nat.{ℕ, ◌+◌, ◌*◌, ◌≤◌, ◌<◌}
 use lib.ListN.{length}
 use native.Mathlib.Omega.{arith}
@@ -11,11 +11,13 @@ use Rattle.grammar.specs.Sizes.{WIDTH}
 use Rattle.grammar.specs.Nodes.{Rec}
 use Rattle.grammar.specs.Promise.{tokens, Lent, AllFit, Reads}
 use Rattle.descent.proofs.Walk.{Walked, done, stop, spent, command_w}
-use Rattle.descent.proofs.Fill.{fill, Filled}
+use Rattle.descent.proofs.Fill.{fill}
 use Rattle.descent.proofs.Answers.{stopped, stopped_some, walked, too_long}
 use Rattle.reader.specs.Answers.{Few}
 use Rattle.reader.specs.Bounds.{Lists, kinds_of, tokens as tokensOf, WithinAt, Within}
 use Rattle.reader.specs.Laying.{LaidAt, Laid, Later}
+use Rattle.reader.specs.Refusals.{number_of}
+use Rattle.reader.specs.declared.refusal.Reason.{Reason}
 use Rattle.reader.specs.declared.Cursor.{Cursor}
 use Rattle.reader.specs.declared.Step.{Step}
 use Rattle.reader.specs.declared.Step.TheVariants as step
@@ -43,14 +45,14 @@ filled_by N N' w (step.Got s n d) {rs = rs} l e h =
     l.2.stand (omega (arith, h, c, k)) ∙ ap (fill N 0) same
 filled_by N N' w (step.Refused m p) l e h = 0≢1 (ap is_done (sym l ∙ e))
 
-pub refused_some : {K T : List ℕ} (lent : Lent K T) (fit : AllFit (tokens K T)) {M M' : List ℕ} {r : Step} (first : Later (λ f. Laid 0 M M' (command_w K T f) r)) {m p : ℕ} → r ≡ step.Refused m p → 0 < m
+pub refused_some : {K T : List ℕ} (lent : Lent K T) (fit : AllFit (tokens K T)) {M M' : List ℕ} {r : Step} (first : Later (λ f. Laid 0 M M' (command_w K T f) r)) {m : Reason} {p : ℕ} → r ≡ step.Refused m p → 0 < number_of m
 refused_some {K} {T} lent fit first e = let f : ℕ = first.least in stopped_some K T [] lent fit f (stopped_in (first.holds f (omega arith)) e)
 
 module _ {K T N N' : List ℕ} (lent : Lent K T) (fit : AllFit (tokens K T)) {M M' : List ℕ} {r : Step} (first : Later (λ f. Laid 0 M M' (command_w K T f) r)) where
-  pub refused_so : {m p : ℕ} → r ≡ step.Refused m p → N' ≡ N → Reads K T N m p N'
+  pub refused_so : {m : Reason} {p : ℕ} → r ≡ step.Refused m p → N' ≡ N → Reads K T N (number_of m) p N'
   refused_so {m} {p} e t =
       let f : ℕ = first.least in
-      subst⁻¹ (λ (z : List ℕ). Reads K T N m p z) t (stopped K T N lent fit f (stopped_in (first.holds f (omega arith)) e))
+      subst⁻¹ (λ (z : List ℕ). Reads K T N (number_of m) p z) t (stopped K T N lent fit f (stopped_in (first.holds f (omega arith)) e))
 
   module _ {s n : ℕ} {d : Cursor} (e : r ≡ step.Got s n d) where
     pub without_room : {p : ℕ} → p ≡ d.made → length N < d.made * 4 → N' ≡ N → Reads K T N 9 p N'
@@ -73,7 +75,7 @@ module _ {K T N N' : List ℕ} (lent : Lent K T) (fit : AllFit (tokens K T)) {M 
 
 -- what a walk from the first token is within
 module _ {io : Lists} {r : Step} (w : Within 1 4 io 0 0 r) where
-  pub few_refused : {m p : ℕ} → r ≡ step.Refused m p → Few (kinds_of io) p
+  pub few_refused : {m : Reason} {p : ℕ} → r ≡ step.Refused m p → Few (kinds_of io) p
   unfolding tokensOf
   few_refused {p = p} e = let h : p ≤ length (kinds_of io) = subst (λ (s : Step). WithinAt 1 4 io 0 0 s) e w.holds in omega (arith, h)
 

@@ -3,7 +3,7 @@ use mathlib.Core.Bool.{Bool, true, false, ◌||◌}
 use mathlib.Core.List.{List, [], ◌∷◌}
 use mathlib.Core.Logic.{◌⊎◌, inl, inr}
 use mathlib.Core.Path.{◌≡◌, refl, sym, ap, ap₂, ◌∙◌, subst}
-use Prim.Native.Nat.{ℕ, zero, suc, ◌+◌, ◌-◌, ◌*◌, ◌≤◌, ◌<◌, min}
+use Prim.Native.Nat.{ℕ, zero, suc, ◌+◌, ◌-◌, ◌≤◌, ◌<◌, min}
 use lib.Dec.{eqb, ltb, leb, T}
 use lib.ListN.{length, get_or}
 use native.Mathlib.Omega.{arith}
@@ -26,7 +26,7 @@ use Rattle.reader.specs.Laying.{Laid, TooDeep, is_bare, begins_join}
 use Rattle.reader.specs.declared.Cursor.{Cursor}
 use Rattle.reader.specs.declared.Step.{Step}
 use Rattle.reader.specs.declared.Step.TheVariants as step
-use Rattle.reader.proofs.Laying.{halted, left, goes, behind, by_walk, no_left, no_right}
+use Rattle.reader.proofs.Laying.{said, left, goes, behind, by_walk, no_left, no_right}
 
 -- ── bare aliases ──
 pub bare_in : (k : ℕ) → 1 ≤ k → k ≤ 3 → is_bare_alias k ≡ true
@@ -72,7 +72,7 @@ pub deep_walk : {made : ℕ} {N N' : List ℕ} {r : Step} {io : Lists} {at kind 
 unfolding too_deep_w
 deep_walk {io = io} {at = at} {kind = kind} ask s e a h =
     let k : ℕ = get_or (kinds_of io) at 0 in
-    halted h (stops (begins_expr k) (both (eqb k NOT) (ltb 10 s)) (wrong k) at ∙ ap (λ z. stop (deep_number z s) at) (sym e.is) ∙ ap (λ z. stop (deep_number kind z) at) (sym a))
+    said h (stops (begins_expr k) (both (eqb k NOT) (ltb 10 s)) (wrong k) at ∙ ap (λ z. stop (deep_number z s) at) (sym e.is) ∙ ap (λ z. stop (deep_number kind z) at) (sym a))
 
 -- ── join words ──
 module _ (K T : List ℕ) where

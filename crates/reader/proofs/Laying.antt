@@ -18,12 +18,17 @@ use Rattle.descent.proofs.Walk.{Walked, done, stop, spent, bind, onto, over, mis
 use Rattle.descent.proofs.Fill.{Filled}
 use Rattle.descent.proofs.Filling.{◌then◌}
 use Rattle.reader.specs.Bounds.{Lists, kinds_of, queries_of, strength_asked, Seen}
-use Rattle.reader.specs.Laying.{LaidAt, Laid, Later, Packed, Onward, one, absences, not_null_w}
+use Rattle.reader.specs.Refusals.{number_of}
+use Rattle.reader.specs.declared.refusal.Reason.{Reason}
+use Rattle.reader.specs.Laying.{Says, Misfit, LaidAt, Laid, Later, Packed, Onward, one, absences}
 use Rattle.reader.specs.declared.Cursor.{Cursor}
 use Rattle.reader.specs.declared.Step.{Step}
 use Rattle.reader.specs.declared.Step.TheVariants as step
 
 -- ── an answer that is made ──
+pub renumbered : {n m p : ℕ} {r : Step} → Says n p r → n ≡ m → Says m p r
+renumbered h e = record { why = h.why; is = h.is; number = h.number ∙ e }
+
 module _ {made : ℕ} {N N' : List ℕ} {w : Walked} {r : Step} where
   pub laid : {s n : ℕ} {d : Cursor} {rs : List Rec} → r ≡ step.Got s n d → w ≡ done d.at s n rs → Filled N N' made d.made rs → Laid made N N' w r
   laid {rs = rs} e a f = record { holds = subst⁻¹ (λ (s : Step). LaidAt made N N' w s) e (rs, a, f) }
@@ -32,13 +37,16 @@ module _ {made : ℕ} {N N' : List ℕ} {w : Walked} {r : Step} where
   pub laid_as : {s t n : ℕ} {d : Cursor} {rs : List Rec} → r ≡ step.Got s n d → s ≡ t → w ≡ done d.at t n rs → Filled N N' made d.made rs → Laid made N N' w r
   laid_as {n = n} {d = d} {rs = rs} e q a f = laid e (a ∙ ap (λ z. done d.at z n rs) (sym q)) f
 
-  pub halted : {m p : ℕ} → r ≡ step.Refused m p → w ≡ stop m p → Laid made N N' w r
+  pub halted : {m : Reason} {p : ℕ} → r ≡ step.Refused m p → w ≡ stop (number_of m) p → Laid made N N' w r
   halted e a = record { holds = subst⁻¹ (λ (s : Step). LaidAt made N N' w s) e a }
+
+  pub said : {n p : ℕ} → Says n p r → w ≡ stop n p → Laid made N N' w r
+  said {p = p} h a = halted h.is (a ∙ ap (λ z. stop z p) (sym h.number))
 
   pub laid_in : {s n : ℕ} {d : Cursor} → Laid made N N' w r → r ≡ step.Got s n d → LaidAt made N N' w (step.Got s n d)
   laid_in l e = subst (λ (s : Step). LaidAt made N N' w s) e l.holds
 
-  pub stopped_in : {m p : ℕ} → Laid made N N' w r → r ≡ step.Refused m p → w ≡ stop m p
+  pub stopped_in : {m : Reason} {p : ℕ} → Laid made N N' w r → r ≡ step.Refused m p → w ≡ stop (number_of m) p
   stopped_in l e = subst (λ (s : Step). LaidAt made N N' w s) e l.holds
 
 -- the answer and the table of one of two ways
@@ -63,7 +71,7 @@ module _ {made : ℕ} {N N' : List ℕ} {r : Step} where
   goes w k l e h = let x = laid_in l e in subst⁻¹ (λ z. Laid made N N' (bind z k) r) x.1 (h x.0 x.2)
 
   -- a callee that refused
-  pub halts : {m : ℕ} {M M' : List ℕ} {j p : ℕ} (w : Walked) (k : ℕ → ℕ → ℕ → List Rec → Walked) → Laid m M M' w r → r ≡ step.Refused j p → Laid made N N' (bind w k) r
+  pub halts : {m : ℕ} {M M' : List ℕ} {j : Reason} {p : ℕ} (w : Walked) (k : ℕ → ℕ → ℕ → List Rec → Walked) → Laid m M M' w r → r ≡ step.Refused j p → Laid made N N' (bind w k) r
   unfolding bind
   halts w k l e = halted e (ap (λ z. bind z k) (stopped_in l e))
 
@@ -72,8 +80,8 @@ module _ {made : ℕ} {N N' : List ℕ} {r : Step} where
   by_walk e l = subst⁻¹ (λ (z : Walked). Laid made N N' z r) e l
 
   -- a token that can't stand here
-  pub misfit : {io : Lists} {at kind : ℕ} → Seen io at kind → r ≡ step.Refused (wrong kind) at → Laid made N N' (stop (wrong (get_or (kinds_of io) at 0)) at) r
-  misfit {at = at} s e = halted e (ap (λ z. stop (wrong z) at) (sym s.is))
+  pub misfit : {io : Lists} {at kind : ℕ} → Seen io at kind → Misfit kind at r → Laid made N N' (stop (wrong (get_or (kinds_of io) at 0)) at) r
+  misfit {at = at} s e = said e (ap (λ z. stop (wrong z) at) (sym s.is))
 
 -- records put before those of a walk, one by one
 pub bind_onto : (rs : List Rec) (w : Walked) → bind w (λ a s n qs. done a s n (rs ++ qs)) ≡ onto rs w

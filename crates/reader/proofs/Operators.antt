@@ -1,22 +1,18 @@
 -- What goes on after an operand, with NOT before its word or without: the code's one way for both is the walk's two. Assumes nothing.
-use mathlib.Core.Bool.{Bool, true, false}
-use mathlib.Core.List.{List, [], ◌∷◌}
+use mathlib.Core.List.{List}
 use mathlib.Core.Logic.{◌⊎◌, inl, inr}
 use mathlib.Core.Path.{◌≡◌, refl, sym, ap, ◌∙◌, subst}
-use Prim.Native.Nat.{ℕ, suc, ◌+◌, ◌-◌, ◌*◌, ◌≤◌, ◌<◌}
-use lib.Dec.{eqb, ltb}
+use Prim.Native.Nat.{ℕ, ◌+◌, ◌-◌, ◌*◌, ◌≤◌, ◌<◌}
+use lib.Dec.{ltb}
 use lib.ListN.{get_or}
 use native.Mathlib.Omega.{arith}
 use borrow.Author.Tests.{le-ltb, lt-ltb}
-use Rattle.kinds.specs.Kinds.{NOTNULL}
 use Rattle.grammar.specs.Limits.{Around}
-use Rattle.grammar.specs.Nodes.{rec}
-use Rattle.descent.proofs.Places.{wrong}
-use Rattle.descent.proofs.Walk.{Walked, done, stop, expr_w, op_w, negated_w, among_w, range_w, binary_w, collate_w}
+use Rattle.descent.proofs.Walk.{Walked, done, expr_w, op_w, negated_w, among_w, range_w, binary_w, collate_w}
 use Rattle.reader.specs.Bounds.{Lists, kinds_of, texts_of, Seen}
 use Rattle.reader.specs.Laying.{Laid, Later, one, not_null_w}
 use Rattle.reader.specs.declared.Step.{Step}
-use Rattle.reader.proofs.Laying.{took, left, by_walk, is, isn't, differs, by_kind, next, at_once, so}
+use Rattle.reader.proofs.Laying.{took, left, by_walk, is, isn't, differs, by_kind, next, at_once}
 
 -- NOT stands here and the word after it, or the word itself
 abbrev pub Way : Lists → ℕ → ℕ → ℕ → ℕ → Type 0

@@ -3,10 +3,11 @@
 use mathlib.Core.Path.{◌≡◌, subst, subst⁻¹}
 use Prim.Native.Nat.{ℕ, ◌+◌, ◌-◌, ◌*◌, ◌≤◌, ◌<◌}
 use native.Mathlib.Omega.{arith}
+use Rattle.reader.specs.declared.refusal.Reason.{Reason}
 use Rattle.reader.specs.declared.Cursor.{Cursor}
 use Rattle.reader.specs.declared.Step.{Step}
 use Rattle.reader.specs.declared.Step.TheVariants as step
-use Rattle.reader.specs.Bounds.{Lists, tokens, queries_of, strength_asked, Asks, Ready, Seen, Ends, WithinAt, Within, Refuses, OneOnAt, OneOn, OpensAt, Opens, NullBeforeAt, NullBefore}
+use Rattle.reader.specs.Bounds.{Lists, tokens, queries_of, strength_asked, Asks, Seen, Ends, WithinAt, Within, Refuses, OneOnAt, OneOn, OpensAt, Opens, NullBeforeAt, NullBefore}
 
 module _ {reads slack : ℕ} {io : Lists} {at made : ℕ} {r : Step} where
   -- of an answer that is taken apart
@@ -23,7 +24,7 @@ module _ {reads slack : ℕ} {io : Lists} {at made : ℕ} {r : Step} where
   refused h b = record { holds = subst⁻¹ (λ (s : Step). WithinAt reads slack io at made s) h.is b }
 
   -- of a callee's refusal that is passed on
-  pub passed_on : {reads' slack' at' made' n p : ℕ} → Within reads' slack' io at' made' r → r ≡ step.Refused n p
+  pub passed_on : {reads' slack' at' made' p : ℕ} {n : Reason} → Within reads' slack' io at' made' r → r ≡ step.Refused n p
       → Within reads slack io at made r
   passed_on {reads'} {slack'} {at'} {made'} w e =
       record { holds = subst⁻¹ (λ (s : Step). WithinAt reads slack io at made s) e (subst (λ (s : Step). WithinAt reads' slack' io at' made' s) e w.holds) }

@@ -1,6 +1,6 @@
 -- A kind that is a name or goes on after an operand is one; flags of join words are small. Assumes nothing.
 use mathlib.Core.Path.{◌≡◌, sym, subst}
-use mathlib.Core.Bool.{Bool, true, false, cond, ◌&&◌}
+use mathlib.Core.Bool.{Bool, true, ◌&&◌}
 use mathlib.Core.List.{List, [], ◌∷◌}
 use Prim.Native.Nat.{ℕ, zero, suc, ◌≤◌, ◌<◌, ◌^◌}
 use native.Mathlib.Omega.{arith}
@@ -8,7 +8,7 @@ use lib.Bits.{bit_or, or_lt}
 use lib.Dec.{T, eqb, leb, leb→le}
 use Rattle.kinds.specs.Classes.{is_name}
 use Rattle.kinds.proofs.Small.{left, right, chosen}
-use Rattle.kinds.specs.Strength.{strengths, strength_of}
+use Rattle.kinds.specs.Strength.{strength_of}
 use Rattle.words.specs.Words.{Word, words}
 use Rattle.words.specs.Flags.{flags_in, flags_of}
 

@@ -5,6 +5,7 @@ use Rattle.std.specs.Borrow.{Bor}
 use Rattle.grammar.specs.Sizes.{TOKENS}
 use Rattle.kinds.specs.Strength.{strength_table}
 use Rattle.reader.specs.declared.Cursor.{Cursor}
+use Rattle.reader.specs.declared.refusal.Reason.{Reason}
 use Rattle.reader.specs.declared.Step.{Step}
 use Rattle.reader.specs.declared.Step.TheVariants as step
 
@@ -95,7 +96,7 @@ pub record Within (reads slack : ℕ) (io : Lists) (at made : ℕ) (r : Step) : 
 
 -- a refusal at a place
 pub record Refuses (at : ℕ) (r : Step) : Type 0 where
-  pub why : ℕ
+  pub why : Reason
   pub is : r ≡ step.Refused why at
 
 -- what is read is one token
@@ -125,8 +126,8 @@ pub record NullBefore (next made word : ℕ) (r : Step) : Type 0 where
 abbrev pub got_of : ℕ → ℕ → ℕ → ℕ → Step
 got_of said count at made = step.Got said count (record { at = at; made = made })
 
-abbrev pub refusal_of : ℕ → ℕ → Step
-refusal_of n at = step.Refused n at
+abbrev pub refusal_of : Reason → ℕ → Step
+refusal_of why at = step.Refused why at
 
 -- the measure of the readers, which call one another: tokens left, then the rank of the reader
 abbrev pub rank : ℕ → Lists → ℕ → ℕ

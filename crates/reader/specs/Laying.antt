@@ -1,6 +1,6 @@
 -- What the reader's functions do, exactly: each does its walk (crate descent), which is to say that it answers as the walk does and that
 -- the walk's records stand in the table from `made` on, where it has room for them. Definitions only; nothing published rests on them.
-use Rattle.std.specs.Prelude.{Bool, true, false, List, [], ◌∷◌, ◌++◌, ◌≡◌, ℕ, zero, suc, ◌+◌, ◌*◌, ◌≤◌, ◌<◌, eqb, ltb, length, get_or}
+use Rattle.std.specs.Prelude.{Bool, true, List, [], ◌∷◌, ◌≡◌, ℕ, zero, suc, ◌+◌, ◌*◌, ◌≤◌, ◌<◌, eqb, ltb, get_or}
 use Rattle.theory.specs.Table.{both, mem}
 use Rattle.kinds.specs.Kinds.{NOT, NOTNULL, NULL, RP, STAR, COMMA, JOIN, JOIN_KW}
 use Rattle.kinds.specs.Classes.{begins_expr}
@@ -12,14 +12,15 @@ use Rattle.descent.proofs.Places.{wrong}
 use Rattle.descent.proofs.Walk.{Walked, done, stop, bind, over, missing, name_rec, rows_w}
 use Rattle.descent.proofs.Fill.{Filled}
 use Rattle.reader.specs.Bounds.{Lists, kinds_of, texts_of}
-use Rattle.reader.specs.declared.Cursor.{Cursor}
+use Rattle.reader.specs.Refusals.{number_of}
+use Rattle.reader.specs.declared.refusal.Reason.{Reason}
 use Rattle.reader.specs.declared.Step.{Step}
 use Rattle.reader.specs.declared.Step.TheVariants as step
 
 -- ── one walk, one answer ──
 abbrev pub LaidAt : ℕ → List ℕ → List ℕ → Walked → Step → Type 0
 LaidAt made N N' w (step.Got said count d) = (rs : List Rec) × (w ≡ done d.at said count rs) × Filled N N' made d.made rs
-LaidAt made N N' w (step.Refused m p) = w ≡ stop m p
+LaidAt made N N' w (step.Refused why p) = w ≡ stop (number_of why) p
 
 pub record Laid (made : ℕ) (N N' : List ℕ) (w : Walked) (r : Step) : Type 0 where
   pub holds : LaidAt made N N' w r
@@ -53,12 +54,18 @@ pub record Onward (start made : ℕ) (N N₁ : List ℕ) (w w' : ℕ → Walked)
   pub on : (r : Step) (N' : List ℕ) → Later (λ f. Laid made N₁ N' (w' f) r) → Later (λ f. Laid start N N' (w f) r)
 
 -- ── answers and records that several functions make ──
+-- a refusal with this number, at this place
+pub record Says (n at : ℕ) (r : Step) : Type 0 where
+  pub why : Reason
+  pub is : r ≡ step.Refused why at
+  pub number : number_of why ≡ n
+
 abbrev pub Misfit : ℕ → ℕ → Step → Type 0
-Misfit kind at r = r ≡ step.Refused (wrong kind) at
+Misfit kind at r = Says (wrong kind) at r
 
 -- 5, but 3 goes before it
 abbrev pub TooDeep : ℕ → ℕ → ℕ → Step → Type 0
-TooDeep kind s at r = r ≡ step.Refused (choose (begins_expr kind) (choose (both (eqb kind NOT) (ltb 10 s)) (wrong kind) 5) (wrong kind)) at
+TooDeep kind s at r = Says (choose (begins_expr kind) (choose (both (eqb kind NOT) (ltb 10 s)) (wrong kind) 5) (wrong kind)) at r
 
 abbrev pub one : ℕ → ℕ → ℕ → ℕ → List Rec
 one code detail n size = rec code detail n size ∷ []

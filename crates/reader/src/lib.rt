@@ -2,6 +2,8 @@
 // empty table, judges and counts; the second writes.
 #![tactic(auto)]
 
+mod refusal;
+
 ghost use Rattle.std.specs.Prelude.{◌≡◌, ℕ, ◌+◌, ◌-◌, ◌*◌, ◌/◌, ◌<◌, ◌≤◌, min, true, List, [], ◌∷◌, ◌++◌, eqb, length, get_or};
 ghost use Rattle.kinds.specs.Kinds.{STAR, AS};
 ghost use Rattle.kinds.specs.Fit.{fits};
@@ -24,6 +26,7 @@ use kinds::{
     OFFSET, ON, ORDER, PLUS, RP, SELECT, SEMI, STAR, STRING, THEN, USING, VALUES, VARIABLE, WHEN,
     WHERE,
 };
+pub use refusal::{Reason, Refusal};
 
 // The place of the next token, and the records made.
 #[derive(Clone, Copy)]
@@ -36,14 +39,8 @@ pub struct Cursor {
 // members it has, and where it ends.
 #[derive(Clone, Copy)]
 pub enum Step {
-    Refused(u8, u16),
+    Refused(Reason, u16),
     Got(u8, u16, Cursor),
-}
-
-#[derive(Clone, Copy)]
-pub enum Answer {
-    Accepted(usize),
-    Refused(u32, usize),
 }
 
 // 01's limits, and how many numbers a record has.
@@ -125,12 +122,12 @@ fn text(io: &[&[u32]; 3], at: u32) -> u32
 }
 
 // A refusal, written over a whole answer: the compiler would carry the stale rest of an answer along.
-fn refused(n: u8, at: u32) -> Step
+fn refused(why: Reason, at: u32) -> Step
     requires { at < 65536 }
-    ensures { result ≡ refusal_of n at }
+    ensures { result ≡ refusal_of why at }
 {
     let mut r = got(0, 0, 0);
-    r = Step::Refused(n, at as u16);
+    r = Step::Refused(why, at as u16);
     r
 }
 
@@ -140,9 +137,9 @@ fn wrong(kind: u32, at: u32) -> Step
     ensures { Refuses at result × Misfit kind at result }
 {
     if kind == 0 {
-        return refused(4, at);
+        return refused(Reason::Unfinished, at);
     }
-    refused(3, at)
+    refused(Reason::CannotFollow, at)
 }
 
 fn got(at: u32, made: u32, said: u8) -> Step
@@ -341,7 +338,7 @@ fn too_deep(kind: u32, at: u32, ask: u32) -> Step
             return wrong(kind, at);
         }
     }
-    Step::Refused(5, at as u16)
+    Step::Refused(Reason::TooDeep, at as u16)
 }
 
 // What is left after an operator: no more than its own strength, nor than its right operand leaves.
@@ -893,13 +890,13 @@ fn body(io: &[&[u32]; 3], nodes: &mut [u32], at: u32, made: u32, ask: u32) -> St
     let kind = peek(io, at);
     if kind == SELECT {
         if queries(ask) >= QUERIES {
-            return Step::Refused(6, at as u16);
+            return Step::Refused(Reason::TooManyQueries, at as u16);
         }
         return select(io, nodes, at + 1, made, ask + QUERY + 1);
     }
     if kind == VALUES {
         if queries(ask) >= QUERIES {
-            return Step::Refused(6, at as u16);
+            return Step::Refused(Reason::TooManyQueries, at as u16);
         }
         return rows(io, nodes, at + 1, made, ask + QUERY + 1);
     }
@@ -982,7 +979,7 @@ fn row(io: &[&[u32]; 3], nodes: &mut [u32], at: u32, made: u32, width: u32, ask:
     let n = n_d as u32;
     if width > 0 {
         if n != width {
-            return Step::Refused(8, d.at as u16);
+            return Step::Refused(Reason::RowLength, d.at as u16);
         }
     }
     let m = emit(nodes, d.made, 4, 0, n, d.made - made + 1);
@@ -1257,7 +1254,7 @@ fn joined(io: &[&[u32]; 3], from: u32, first: u32) -> Step
         at += 1;
     }
     if !words::legal(flags) {
-        return Step::Refused(7, at as u16);
+        return Step::Refused(Reason::JoinFlags, at as u16);
     }
     got(at + 1, 0, (64 + flags) as u8)
 }
@@ -1634,37 +1631,51 @@ fn command(io: &[&[u32]; 3], nodes: &mut [u32]) -> Step
 }
 
 // The two walks of lists that are lent and fit.
-fn start<'a>(kinds: &'a [u32], texts: &'a [u32], table: &'a [u32], nodes: &mut [u32]) -> Answer
+fn start<'a>(
+    kinds: &'a [u32],
+    texts: &'a [u32],
+    table: &'a [u32],
+    nodes: &mut [u32],
+) -> Result<usize, Refusal>
     requires { Lent kinds.now texts.now × (greatest_like kinds.now texts.now ≤ 3) × FitLists kinds.now texts.now × (table.now ≡ strength_table) }
     ensures { Reads kinds.now texts.now nodes.old (number result) (place result) nodes.new × Few kinds.now (place result) × Plain result }
 {
     let io = [kinds, texts, table];
     let first = command(&io, &mut nodes[..0]);
     match first {
-        Step::Refused(n, p) => Answer::Refused(n as u32, p as usize),
+        Step::Refused(why, at) => Err(Refusal {
+            why,
+            place: at as usize,
+        }),
         Step::Got(_, _, c) => {
             let need = c.made as usize;
             if need * WIDTH > nodes.len() {
-                return Answer::Refused(9, need);
+                return Err(Refusal {
+                    why: Reason::TableShort,
+                    place: need,
+                });
             }
             command(&io, nodes);
-            Answer::Accepted(need)
+            Ok(need)
         }
     }
 }
 
 // Reads the list into records, or refuses it; what is refused leaves the table as it was.
-pub fn read<'a>(kinds: &'a [u32], texts: &'a [u32], nodes: &mut [u32]) -> Answer
+pub fn read<'a>(kinds: &'a [u32], texts: &'a [u32], nodes: &mut [u32]) -> Result<usize, Refusal>
     ensures { Reads kinds.now texts.now nodes.old (number result) (place result) nodes.new × Few kinds.now (place result) × Plain result }
 {
-    if kinds.len() != texts.len() {
-        return Answer::Refused(1, 0);
-    }
-    if kinds.len() > TOKENS {
-        return Answer::Refused(1, 0);
+    if kinds.len() != texts.len() || kinds.len() > TOKENS {
+        return Err(Refusal {
+            why: Reason::Lengths,
+            place: 0,
+        });
     }
     if !all_fit(kinds, texts) {
-        return Answer::Refused(2, unfit(kinds, texts));
+        return Err(Refusal {
+            why: Reason::Unfit,
+            place: unfit(kinds, texts),
+        });
     }
     let table = kinds::strengths();
     start(kinds, texts, &table[..], nodes)

@@ -3,7 +3,7 @@
 use Rattle.reader.proofs.Steps.{further, refused, ended, got_in, passed_on, opened, opening, opens_refused, one_on, same_answer, null_before, seen_as, opens_in}
 use native.Mathlib.Omega.{arith}
 use Prim.Native.Nat.{◌+◌, ◌<◌, ◌≤◌}
-use Rattle.reader.proofs.Laying.{took, left, misfit, next, at_once, is, isn't, goes, halts, topped, by_kind, laid, capped, halted, query_opened, queries_of_lem, by_walk, two_ways, ◌also◌, behind, loop_start, for_any, laid_joined, so, strength_of, differs, filled_as, no_left, no_right, closed, at_second, laid_as}
+use Rattle.reader.proofs.Laying.{took, left, misfit, next, at_once, is, isn't, goes, halts, topped, by_kind, laid, capped, halted, said, query_opened, queries_of_lem, by_walk, two_ways, ◌also◌, behind, loop_start, for_any, laid_joined, so, strength_of, differs, filled_as, no_left, no_right, closed, at_second, laid_as}
 use Rattle.descent.proofs.Walk.{expr_w, leaf_w, operand_w, deeper, dotted_w, not_b}
 use Rattle.reader.specs.Laying.{one, is_bare, absences, Laid, Later, begins_join, literal_text}
 use Rattle.reader.proofs.KindTests.{between_in, between_out, bare_either, bare_neither, distinct_walk, deep_walk, indexed_heads_none, heads_call_lem, Sign, sign_is, no_sign, ops_walk, ops_goes, no_parts, select_walk, prefix_walk, no_tail}
@@ -11,7 +11,7 @@ use Rattle.theory.specs.Table.{both}
 use mathlib.Core.Path.{ap, refl, sym, ◌∙◌, ap₂}
 use mathlib.Core.Logic.{inl, inr}
 use lib.Dec.{leb, eqb, ltb}
-use Rattle.reader.specs.Bounds.{Asks, queries_of, kinds_of, texts_of, tokens, Within, Seen, got_of}
+use Rattle.reader.specs.Bounds.{Asks, queries_of, kinds_of, texts_of, Within, Seen, got_of}
 use Rattle.theory.proofs.Cases.{le-leb, eqb-true, both_i}
 use borrow.Author.Tests.{lt-leb, ne_eqb, lt-ltb, le-ltb}
 use Rattle.kinds.specs.Kinds.{STAR}
@@ -1215,7 +1215,7 @@ sign-wrong-requires t c = omega arith
 
 pub sign-returns-then-asked-gt-NOT_STANDS : goal.sign-returns-then-asked-gt-NOT_STANDS
 unfolding expr_w
-sign-returns-then-asked-gt-NOT_STANDS t c = (refused c.wrong.ensures.0 (omega arith), λ s. record { does = λ a p. at_once (λ f. prefix_walk f a s c.requires.3 c.prefix-p.ensures (took _ _ _ (both_i _ _ (eqb-true _ _ c.if-kind-eq-NOT.true) (lt-ltb 10 s (omega (arith, strength_of p, c.asked.ensures, c.if-asked-gt-NOT_STANDS.true)))) (halted c.wrong.ensures.1 refl))) })
+sign-returns-then-asked-gt-NOT_STANDS t c = (refused c.wrong.ensures.0 (omega arith), λ s. record { does = λ a p. at_once (λ f. prefix_walk f a s c.requires.3 c.prefix-p.ensures (took _ _ _ (both_i _ _ (eqb-true _ _ c.if-kind-eq-NOT.true) (lt-ltb 10 s (omega (arith, strength_of p, c.asked.ensures, c.if-asked-gt-NOT_STANDS.true)))) (said c.wrong.ensures.1 refl))) })
 
 pub sign-overflow_add-at : goal.sign-overflow_add-at
 sign-overflow_add-at t c = omega arith

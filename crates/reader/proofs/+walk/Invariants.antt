@@ -2,7 +2,6 @@
 -- Assumes nothing.
 use Rattle.reader.specs.Bounds.{rank}
 use Prim.Native.Nat.{ℕ, ◌+◌, ◌≤◌, ◌*◌, ◌-◌}
-use Rattle.reader.proofs.Laying.{left}
 use Rattle.descent.proofs.Walk.{cols_w, joins_w, list_w, ops_w, rows_w, terms_w, when_w}
 use Rattle.reader.specs.Laying.{Packed, Onward, Laid, Later}
 use mathlib.Core.Path.{◌≡◌}

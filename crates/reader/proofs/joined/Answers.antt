@@ -7,7 +7,7 @@ use Rattle.reader.proofs.Laying.{laid, halted, took, left, by_walk, misfit, is, 
 use Rattle.reader.proofs.KindTests.{join_wrong, join_full, join_word_lem, join_there}
 use Rattle.descent.proofs.Filling.{nothing}
 use Rattle.descent.proofs.Walk.{join_w, joined_w}
-use Rattle.words.specs.Flags.{flags_of, united, legal}
+use Rattle.words.specs.Flags.{flags_of, united}
 use mathlib.Core.Path.{refl, sym, ap, ◌∙◌}
 use Rattle.reader.proofs.joined.Goals as goal
 

@@ -3,7 +3,7 @@ use Rattle.reader.proofs.Steps.{ended, one_on_got, one_on_refused, refused}
 use Rattle.reader.proofs.Tables.{name_is}
 use mathlib.Core.Path.{◌∙◌, refl, sym}
 use native.Mathlib.Omega.{arith}
-use Rattle.reader.proofs.Laying.{laid, took, left, misfit, is, by_kind}
+use Rattle.reader.proofs.Laying.{laid, took, left, misfit, by_kind}
 use Rattle.descent.proofs.Walk.{name_w}
 use Rattle.kinds.specs.Classes.{is_name}
 use Rattle.reader.proofs.name.Goals as goal

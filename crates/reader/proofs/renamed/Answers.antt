@@ -1,6 +1,6 @@
 use Rattle.reader.proofs.Steps.{ended, got_in, one_on, passed_on}
 use native.Mathlib.Omega.{arith}
-use Rattle.reader.proofs.Laying.{laid, took, left, goes, halts, is}
+use Rattle.reader.proofs.Laying.{laid, took, left, goes, halts}
 use Rattle.theory.proofs.Cases.{eqb-true}
 use borrow.Author.Tests.{ne_eqb}
 use mathlib.Core.Path.{refl}

@@ -2,7 +2,6 @@ use Rattle.reader.specs.Bounds.{tokens, texts, likes, unruled}
 use mathlib.Core.List.{◌++◌}
 use mathlib.Core.Path.{sym, ap}
 use lib.ListN.{length}
-use Rattle.reader.proofs.Laying.{paired}
 use Rattle.descent.proofs.Borrowed.{none_left}
 use Rattle.reader.proofs.Strengths.{table_rules}
 use Rattle.reader.proofs.Answering.{refused_so, refused_some, without_room, accepted_so, few_refused, few_got}
