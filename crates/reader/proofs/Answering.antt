@@ -14,7 +14,8 @@ use Rattle.descent.proofs.Walk.{Walked, done, stop, spent, command_w}
 use Rattle.descent.proofs.Fill.{fill}
 use Rattle.descent.proofs.Answers.{stopped, stopped_some, walked, too_long}
 use Rattle.reader.specs.Answers.{Few}
-use Rattle.reader.specs.Bounds.{Lists, kinds_of, tokens as tokensOf, WithinAt, Within}
+use Rattle.reader.specs.declared.lists.Lists.{Lists}
+use Rattle.reader.specs.Bounds.{kinds_of, WithinAt, Within}
 use Rattle.reader.specs.Laying.{LaidAt, Laid, Later}
 use Rattle.reader.specs.Refusals.{number_of}
 use Rattle.reader.specs.declared.refusal.Reason.{Reason}
@@ -74,11 +75,9 @@ module _ {K T N N' : List ℕ} (lent : Lent K T) (fit : AllFit (tokens K T)) {M 
         subst (λ z. Reads K T N 0 z N') k (subst⁻¹ (λ (z : List ℕ). Reads K T N 0 (length x.0) z) t (walked K T N lent fit f x.1 room))
 
 -- what a walk from the first token is within
-module _ {io : Lists} {r : Step} (w : Within 1 4 io 0 0 r) where
-  pub few_refused : {m : Reason} {p : ℕ} → r ≡ step.Refused m p → Few (kinds_of io) p
-  unfolding tokensOf
-  few_refused {p = p} e = let h : p ≤ length (kinds_of io) = subst (λ (s : Step). WithinAt 1 4 io 0 0 s) e w.holds in omega (arith, h)
+module _ {lists : Lists} {r : Step} (w : Within 1 4 lists 0 0 r) where
+  pub few_refused : {m : Reason} {p : ℕ} → r ≡ step.Refused m p → Few (kinds_of lists) p
+  few_refused {p = p} e = let h : p ≤ length (kinds_of lists) = subst (λ (s : Step). WithinAt 1 4 lists 0 0 s) e w.holds in omega (arith, h)
 
-  pub few_got : {s n p : ℕ} {d : Cursor} → r ≡ step.Got s n d → p ≡ d.made → Few (kinds_of io) p
-  unfolding tokensOf
-  few_got {d = d} e i = let b = got_in w e in let h : d.at ≤ length (kinds_of io) = b.inside in let k = b.room in omega (arith, h, k, i)
+  pub few_got : {s n p : ℕ} {d : Cursor} → r ≡ step.Got s n d → p ≡ d.made → Few (kinds_of lists) p
+  few_got {d = d} e i = let b = got_in w e in let h : d.at ≤ length (kinds_of lists) = b.inside in let k = b.room in omega (arith, h, k, i)

@@ -21,7 +21,8 @@ use Rattle.grammar.specs.Reading.{choose}
 use Rattle.descent.proofs.Places.{wrong}
 use Rattle.descent.proofs.Fill.{Filled}
 use Rattle.descent.proofs.Walk.{Walked, done, stop, bind, onto, over, missing, deeper, too_deep_w, join_w, called_w, expr_w, op_w, ops_w, list_w, sign_w, parts_w, tail_w, select_w, selected_w}
-use Rattle.reader.specs.Bounds.{Lists, kinds_of, texts_of, strength_asked, Seen}
+use Rattle.reader.specs.declared.lists.Lists.{Lists}
+use Rattle.reader.specs.Bounds.{kinds_of, texts_of, strength_asked, Seen}
 use Rattle.reader.specs.Laying.{Laid, TooDeep, is_bare, begins_join}
 use Rattle.reader.specs.declared.Cursor.{Cursor}
 use Rattle.reader.specs.declared.Step.{Step}
@@ -68,10 +69,10 @@ stops true true x at = refl
 stops true false x at = refl
 stops false d x at = refl
 
-pub deep_walk : {made : ℕ} {N N' : List ℕ} {r : Step} {io : Lists} {at kind : ℕ} (ask s : ℕ) → Seen io at kind → strength_asked ask ≡ s → TooDeep kind (strength_asked ask) at r → Laid made N N' (too_deep_w (kinds_of io) (texts_of io) at s) r
+pub deep_walk : {made : ℕ} {N N' : List ℕ} {r : Step} {lists : Lists} {at kind : ℕ} (ask s : ℕ) → Seen lists at kind → strength_asked ask ≡ s → TooDeep kind (strength_asked ask) at r → Laid made N N' (too_deep_w (kinds_of lists) (texts_of lists) at s) r
 unfolding too_deep_w
-deep_walk {io = io} {at = at} {kind = kind} ask s e a h =
-    let k : ℕ = get_or (kinds_of io) at 0 in
+deep_walk {lists = lists} {at = at} {kind = kind} ask s e a h =
+    let k : ℕ = get_or (kinds_of lists) at 0 in
     said h (stops (begins_expr k) (both (eqb k NOT) (ltb 10 s)) (wrong k) at ∙ ap (λ z. stop (deep_number z s) at) (sym e.is) ∙ ap (λ z. stop (deep_number kind z) at) (sym a))
 
 -- ── join words ──
@@ -203,11 +204,11 @@ no_sign k d h = rw (
 abbrev pub signed_w : List ℕ → List ℕ → ℕ → ℕ → Around → ℕ → ℕ → ℕ → Walked
 signed_w K T f at c s k q = choose (both (eqb k NOT) (ltb 10 s)) (stop (wrong k) at) (bind (expr_w K T f (at + 1) (deeper c) q) (λ a x n rs. done a (min q x) 0 (over 38 k 1 0 rs)))
 
-pub prefix_walk : {made : ℕ} {N N' : List ℕ} {r : Step} {io : Lists} {at kind q : ℕ} (f : ℕ) (c : Around) (s : ℕ) → Seen io at kind → q ≡ prefix_of kind
-    → Laid made N N' (signed_w (kinds_of io) (texts_of io) f at c s kind q) r → Laid made N N' (sign_w (kinds_of io) (texts_of io) (suc f) at c s) r
+pub prefix_walk : {made : ℕ} {N N' : List ℕ} {r : Step} {lists : Lists} {at kind q : ℕ} (f : ℕ) (c : Around) (s : ℕ) → Seen lists at kind → q ≡ prefix_of kind
+    → Laid made N N' (signed_w (kinds_of lists) (texts_of lists) f at c s kind q) r → Laid made N N' (sign_w (kinds_of lists) (texts_of lists) (suc f) at c s) r
 unfolding expr_w
-prefix_walk {io = io} {at = at} {kind = kind} {q = q} f c s e p l =
-    by_walk (ap (λ k. signed_w (kinds_of io) (texts_of io) f at c s k (prefix_of k)) (sym e.is) ∙ ap (λ z. signed_w (kinds_of io) (texts_of io) f at c s kind z) (sym p)) l
+prefix_walk {lists = lists} {at = at} {kind = kind} {q = q} f c s e p l =
+    by_walk (ap (λ k. signed_w (kinds_of lists) (texts_of lists) f at c s k (prefix_of k)) (sym e.is) ∙ ap (λ z. signed_w (kinds_of lists) (texts_of lists) f at c s kind z) (sym p)) l
 
 -- ── parts that are absent ──
 module _ (K T : List ℕ) where
@@ -245,17 +246,17 @@ going_w K T f at c s left pre k =
     (choose (ltb left k) (done at left 0 [])
     (bind (op_w K T f at (deeper c) (k + 1) pre) (λ a x n rs. onto rs (ops_w K T f a c s (min k x) (pre + length rs))))))
 
-pub ops_walk : {made : ℕ} {N N' : List ℕ} {r : Step} {io : Lists} {at kind k : ℕ} (f : ℕ) (c : Around) (s left pre : ℕ) → Seen io at kind → k ≡ strength_of kind
-    → Laid made N N' (going_w (kinds_of io) (texts_of io) f at c s left pre k) r → Laid made N N' (ops_w (kinds_of io) (texts_of io) (suc f) at c s left pre) r
+pub ops_walk : {made : ℕ} {N N' : List ℕ} {r : Step} {lists : Lists} {at kind k : ℕ} (f : ℕ) (c : Around) (s left pre : ℕ) → Seen lists at kind → k ≡ strength_of kind
+    → Laid made N N' (going_w (kinds_of lists) (texts_of lists) f at c s left pre k) r → Laid made N N' (ops_w (kinds_of lists) (texts_of lists) (suc f) at c s left pre) r
 unfolding expr_w
-ops_walk {io = io} {at = at} f c s left pre e p l = by_walk (ap (λ z. going_w (kinds_of io) (texts_of io) f at c s left pre (strength_of z)) (sym e.is) ∙ ap (λ z. going_w (kinds_of io) (texts_of io) f at c s left pre z) (sym p)) l
+ops_walk {lists = lists} {at = at} f c s left pre e p l = by_walk (ap (λ z. going_w (kinds_of lists) (texts_of lists) f at c s left pre (strength_of z)) (sym e.is) ∙ ap (λ z. going_w (kinds_of lists) (texts_of lists) f at c s left pre z) (sym p)) l
 
 -- an operator that was read, and those that go on from there
-pub ops_goes : {made : ℕ} {N M N' : List ℕ} {r q : Step} {io : Lists} {at kind k said count new : ℕ} {d : Cursor} (f : ℕ) (c : Around) (s left pre : ℕ) → Seen io at kind → k ≡ strength_of kind → new ≡ min k said
-    → eqb k 0 ≡ false → ltb k s ≡ false → ltb left k ≡ false → Laid made N M (op_w (kinds_of io) (texts_of io) f at (deeper c) (k + 1) pre) q → q ≡ step.Got said count d
-    → ((rs : List Rec) → Filled N M made d.made rs → Laid d.made M N' (ops_w (kinds_of io) (texts_of io) f d.at c s new (pre + length rs)) r) → Laid made N N' (ops_w (kinds_of io) (texts_of io) (suc f) at c s left pre) r
-ops_goes {io = io} {d = d} f c s x pre e p n z i j h g l =
-    ops_walk f c s x pre e p (left _ _ _ z (left _ _ _ i (left _ _ _ j (goes _ _ h g (λ rs F. behind _ _ F (by_walk (ap (λ y. ops_w (kinds_of io) (texts_of io) f d.at c s y (pre + length rs)) (sym n)) (l rs F)))))))
+pub ops_goes : {made : ℕ} {N M N' : List ℕ} {r q : Step} {lists : Lists} {at kind k said count new : ℕ} {d : Cursor} (f : ℕ) (c : Around) (s left pre : ℕ) → Seen lists at kind → k ≡ strength_of kind → new ≡ min k said
+    → eqb k 0 ≡ false → ltb k s ≡ false → ltb left k ≡ false → Laid made N M (op_w (kinds_of lists) (texts_of lists) f at (deeper c) (k + 1) pre) q → q ≡ step.Got said count d
+    → ((rs : List Rec) → Filled N M made d.made rs → Laid d.made M N' (ops_w (kinds_of lists) (texts_of lists) f d.at c s new (pre + length rs)) r) → Laid made N N' (ops_w (kinds_of lists) (texts_of lists) (suc f) at c s left pre) r
+ops_goes {lists = lists} {d = d} f c s x pre e p n z i j h g l =
+    ops_walk f c s x pre e p (left _ _ _ z (left _ _ _ i (left _ _ _ j (goes _ _ h g (λ rs F. behind _ _ F (by_walk (ap (λ y. ops_w (kinds_of lists) (texts_of lists) f d.at c s y (pre + length rs)) (sym n)) (l rs F)))))))
 
 pub indexed_heads_none : (k : ℕ) → k ≡ 4 → heads_call k ≡ false
 unfolding heads_call

@@ -17,7 +17,8 @@ use Rattle.descent.proofs.Places.{wrong}
 use Rattle.descent.proofs.Walk.{Walked, done, stop, spent, bind, onto, over, missing, deeper, opening}
 use Rattle.descent.proofs.Fill.{Filled}
 use Rattle.descent.proofs.Filling.{◌then◌}
-use Rattle.reader.specs.Bounds.{Lists, kinds_of, queries_of, strength_asked, Seen}
+use Rattle.reader.specs.declared.lists.Lists.{Lists}
+use Rattle.reader.specs.Bounds.{kinds_of, queries_of, strength_asked, Seen}
 use Rattle.reader.specs.Refusals.{number_of}
 use Rattle.reader.specs.declared.refusal.Reason.{Reason}
 use Rattle.reader.specs.Laying.{Says, Misfit, LaidAt, Laid, Later, Packed, Onward, one, absences}
@@ -80,7 +81,7 @@ module _ {made : ℕ} {N N' : List ℕ} {r : Step} where
   by_walk e l = subst⁻¹ (λ (z : Walked). Laid made N N' z r) e l
 
   -- a token that can't stand here
-  pub misfit : {io : Lists} {at kind : ℕ} → Seen io at kind → Misfit kind at r → Laid made N N' (stop (wrong (get_or (kinds_of io) at 0)) at) r
+  pub misfit : {lists : Lists} {at kind : ℕ} → Seen lists at kind → Misfit kind at r → Laid made N N' (stop (wrong (get_or (kinds_of lists) at 0)) at) r
   misfit {at = at} s e = said e (ap (λ z. stop (wrong z) at) (sym s.is))
 
 -- records put before those of a walk, one by one
@@ -206,19 +207,19 @@ pub loop_start : {start : ℕ} {N : List ℕ} {w : ℕ → Walked} → Onward st
 loop_start = record { on = λ r N' l. l }
 
 -- ── the kind at a place ──
-module _ {io : Lists} {at kind : ℕ} where
-  pub is : {k : ℕ} → Seen io at kind → kind ≡ k → eqb (get_or (kinds_of io) at 0) k ≡ true
-  is {k} s e = eqb-true (get_or (kinds_of io) at 0) k (sym s.is ∙ e)
+module _ {lists : Lists} {at kind : ℕ} where
+  pub is : {k : ℕ} → Seen lists at kind → kind ≡ k → eqb (get_or (kinds_of lists) at 0) k ≡ true
+  is {k} s e = eqb-true (get_or (kinds_of lists) at 0) k (sym s.is ∙ e)
 
-  pub isn't : {k : ℕ} → Seen io at kind → (kind ≡ k → ⊥) → eqb (get_or (kinds_of io) at 0) k ≡ false
-  isn't {k} s e = ne_eqb (get_or (kinds_of io) at 0) k (λ z. e (s.is ∙ z))
+  pub isn't : {k : ℕ} → Seen lists at kind → (kind ≡ k → ⊥) → eqb (get_or (kinds_of lists) at 0) k ≡ false
+  isn't {k} s e = ne_eqb (get_or (kinds_of lists) at 0) k (λ z. e (s.is ∙ z))
 
   -- another kind, so not this one
-  pub differs : {j : ℕ} (k : ℕ) → Seen io at kind → kind ≡ j → eqb j k ≡ false → eqb (get_or (kinds_of io) at 0) k ≡ false
+  pub differs : {j : ℕ} (k : ℕ) → Seen lists at kind → kind ≡ j → eqb j k ≡ false → eqb (get_or (kinds_of lists) at 0) k ≡ false
   differs k s e d = ap (λ z. eqb z k) (sym s.is ∙ e) ∙ d
 
   -- another test of it
-  pub by_kind : {b : Bool} (test : ℕ → Bool) → Seen io at kind → test kind ≡ b → test (get_or (kinds_of io) at 0) ≡ b
+  pub by_kind : {b : Bool} (test : ℕ → Bool) → Seen lists at kind → test kind ≡ b → test (get_or (kinds_of lists) at 0) ≡ b
   by_kind test s e = ap test (sym s.is) ∙ e
 
 pub wrong_end : {k : ℕ} → k ≡ 0 → wrong k ≡ 4

@@ -7,4 +7,3 @@ mod Tables
 mod Turning
 mod Fitness
 mod Answering
-mod Strengths

@@ -7,48 +7,49 @@ use Rattle.reader.specs.declared.refusal.Reason.{Reason}
 use Rattle.reader.specs.declared.Cursor.{Cursor}
 use Rattle.reader.specs.declared.Step.{Step}
 use Rattle.reader.specs.declared.Step.TheVariants as step
-use Rattle.reader.specs.Bounds.{Lists, tokens, queries_of, strength_asked, Asks, Seen, Ends, WithinAt, Within, Refuses, OneOnAt, OneOn, OpensAt, Opens, NullBeforeAt, NullBefore}
+use Rattle.reader.specs.declared.lists.Lists.{Lists}
+use Rattle.reader.specs.Bounds.{tokens, queries_of, strength_asked, Asks, Seen, Ends, WithinAt, Within, Refuses, OneOnAt, OneOn, OpensAt, Opens, NullBeforeAt, NullBefore}
 
-module _ {reads slack : ℕ} {io : Lists} {at made : ℕ} {r : Step} where
+module _ {reads slack : ℕ} {lists : Lists} {at made : ℕ} {r : Step} where
   -- of an answer that is taken apart
-  pub got_in : {said count : ℕ} {d : Cursor} → Within reads slack io at made r → r ≡ step.Got said count d
-      → Ends reads slack io at made said count d
-  got_in w e = subst (λ (s : Step). WithinAt reads slack io at made s) e w.holds
+  pub got_in : {said count : ℕ} {d : Cursor} → Within reads slack lists at made r → r ≡ step.Got said count d
+      → Ends reads slack lists at made said count d
+  got_in w e = subst (λ (s : Step). WithinAt reads slack lists at made s) e w.holds
 
   -- of an answer that is made
-  pub ended : {said count : ℕ} {d : Cursor} → r ≡ step.Got said count d → Ends reads slack io at made said count d
-      → Within reads slack io at made r
-  ended e b = record { holds = subst⁻¹ (λ (s : Step). WithinAt reads slack io at made s) e b }
+  pub ended : {said count : ℕ} {d : Cursor} → r ≡ step.Got said count d → Ends reads slack lists at made said count d
+      → Within reads slack lists at made r
+  ended e b = record { holds = subst⁻¹ (λ (s : Step). WithinAt reads slack lists at made s) e b }
 
-  pub refused : {p : ℕ} → Refuses p r → p ≤ tokens io → Within reads slack io at made r
-  refused h b = record { holds = subst⁻¹ (λ (s : Step). WithinAt reads slack io at made s) h.is b }
+  pub refused : {p : ℕ} → Refuses p r → p ≤ tokens lists → Within reads slack lists at made r
+  refused h b = record { holds = subst⁻¹ (λ (s : Step). WithinAt reads slack lists at made s) h.is b }
 
   -- of a callee's refusal that is passed on
-  pub passed_on : {reads' slack' at' made' p : ℕ} {n : Reason} → Within reads' slack' io at' made' r → r ≡ step.Refused n p
-      → Within reads slack io at made r
+  pub passed_on : {reads' slack' at' made' p : ℕ} {n : Reason} → Within reads' slack' lists at' made' r → r ≡ step.Refused n p
+      → Within reads slack lists at made r
   passed_on {reads'} {slack'} {at'} {made'} w e =
-      record { holds = subst⁻¹ (λ (s : Step). WithinAt reads slack io at made s) e (subst (λ (s : Step). WithinAt reads' slack' io at' made' s) e w.holds) }
+      record { holds = subst⁻¹ (λ (s : Step). WithinAt reads slack lists at made s) e (subst (λ (s : Step). WithinAt reads' slack' lists at' made' s) e w.holds) }
 
   -- of the answer of one of two ways
-  pub same_answer : {s : Step} → r ≡ s → Within reads slack io at made s → Within reads slack io at made r
-  same_answer e w = subst⁻¹ (λ (s : Step). Within reads slack io at made s) e w
+  pub same_answer : {s : Step} → r ≡ s → Within reads slack lists at made s → Within reads slack lists at made r
+  same_answer e w = subst⁻¹ (λ (s : Step). Within reads slack lists at made s) e w
 
 -- a kind seen at a place
-pub seen_as : {io : Lists} {at at' kind kind' : ℕ} → Seen io at kind → at' ≡ at → kind' ≡ kind → Seen io at' kind'
-seen_as {io} {at} {at'} {kind} {kind'} s p q = subst⁻¹ (λ (a : ℕ). Seen io a kind') p (subst⁻¹ (λ (k : ℕ). Seen io at k) q s)
+pub seen_as : {lists : Lists} {at at' kind kind' : ℕ} → Seen lists at kind → at' ≡ at → kind' ≡ kind → Seen lists at' kind'
+seen_as {lists} {at} {at'} {kind} {kind'} s p q = subst⁻¹ (λ (a : ℕ). Seen lists a kind') p (subst⁻¹ (λ (k : ℕ). Seen lists at k) q s)
 
 -- a callee that starts further on answers for the whole
-further_at : (reads slack reads' slack' : ℕ) (io : Lists) (at made at' made' : ℕ) (r : Step)
+further_at : (reads slack reads' slack' : ℕ) (lists : Lists) (at made at' made' : ℕ) (r : Step)
     → (at + reads ≤ at' + reads') × (made ≤ made') × (made' + 8 * at + slack' ≤ made + 8 * at' + slack)
-    → WithinAt reads' slack' io at' made' r → WithinAt reads slack io at made r
-further_at reads slack reads' slack' io at made at' made' (step.Got said count d) h w = omega arith
-further_at reads slack reads' slack' io at made at' made' (step.Refused n p) h w = w
+    → WithinAt reads' slack' lists at' made' r → WithinAt reads slack lists at made r
+further_at reads slack reads' slack' lists at made at' made' (step.Got said count d) h w = omega arith
+further_at reads slack reads' slack' lists at made at' made' (step.Refused n p) h w = w
 
-pub further : {reads slack reads' slack' : ℕ} {io : Lists} {at made at' made' : ℕ} {r : Step} → Within reads' slack' io at' made' r
+pub further : {reads slack reads' slack' : ℕ} {lists : Lists} {at made at' made' : ℕ} {r : Step} → Within reads' slack' lists at' made' r
     → (at + reads ≤ at' + reads') × (made ≤ made') × (made' + 8 * at + slack' ≤ made + 8 * at' + slack)
-    → Within reads slack io at made r
-further {reads} {slack} {reads'} {slack'} {io} {at} {made} {at'} {made'} {r} w h =
-    record { holds = further_at reads slack reads' slack' io at made at' made' r h w.holds }
+    → Within reads slack lists at made r
+further {reads} {slack} {reads'} {slack'} {lists} {at} {made} {at'} {made'} {r} w h =
+    record { holds = further_at reads slack reads' slack' lists at made at' made' r h w.holds }
 
 -- one token read
 module _ {at : ℕ} {r : Step} where
@@ -77,15 +78,15 @@ pub opened : {ask : ℕ} {r : Step} → queries_of ask < 16 → Opens ask r
 opened {ask} {r} h = record { holds = opens_at ask r h }
 
 -- NOT NULL
-null_at : (reads slack : ℕ) (io : Lists) (at made next word : ℕ) (r : Step) → (word ≡ 11 → next ≤ tokens io) → (at + reads ≤ next) × (next - 1 ≤ tokens io) × (1 + 8 * at ≤ 8 * next + slack)
-    → NullBeforeAt next made word r → WithinAt reads slack io at made r
-null_at reads slack io at made next word (step.Got said count d) k h w = let l : next ≤ tokens io = k w.0 in omega arith
-null_at reads slack io at made next word (step.Refused n p) k h w = omega arith
+null_at : (reads slack : ℕ) (lists : Lists) (at made next word : ℕ) (r : Step) → (word ≡ 11 → next ≤ tokens lists) → (at + reads ≤ next) × (next - 1 ≤ tokens lists) × (1 + 8 * at ≤ 8 * next + slack)
+    → NullBeforeAt next made word r → WithinAt reads slack lists at made r
+null_at reads slack lists at made next word (step.Got said count d) k h w = let l : next ≤ tokens lists = k w.0 in omega arith
+null_at reads slack lists at made next word (step.Refused n p) k h w = omega arith
 
-pub null_before : {reads slack : ℕ} {io : Lists} {at made next word : ℕ} {r : Step} → NullBefore next made word r → (word ≡ 11 → next ≤ tokens io)
-    → (at + reads ≤ next) × (next - 1 ≤ tokens io) × (1 + 8 * at ≤ 8 * next + slack) → Within reads slack io at made r
-null_before {reads} {slack} {io} {at} {made} {next} {word} {r} w k h =
-    record { holds = null_at reads slack io at made next word r k h w.holds }
+pub null_before : {reads slack : ℕ} {lists : Lists} {at made next word : ℕ} {r : Step} → NullBefore next made word r → (word ≡ 11 → next ≤ tokens lists)
+    → (at + reads ≤ next) × (next - 1 ≤ tokens lists) × (1 + 8 * at ≤ 8 * next + slack) → Within reads slack lists at made r
+null_before {reads} {slack} {lists} {at} {made} {next} {word} {r} w k h =
+    record { holds = null_at reads slack lists at made next word r k h w.holds }
 
 module _ {next made word : ℕ} {r : Step} where
   pub null_refused : {p : ℕ} → Refuses p r → p ≡ next - 1 → NullBefore next made word r

@@ -1,42 +1,18 @@
--- What the two lists that the reader is lent tell: a kind that is none past the end, a text for each kind, and the text numbers of LIKE_KW.
--- Assumes nothing.
-use mathlib.Core.Path.{◌≡◌, refl, sym, ap, ◌∙◌, subst, subst⁻¹}
+-- What the two lists that the reader is lent tell of the text numbers of LIKE_KW, and the test of a token with no branch. Assumes nothing.
+use mathlib.Core.Path.{◌≡◌, refl, subst}
 use mathlib.Core.Bool.{Bool, true, false, cond}
 use mathlib.Core.List.{List, [], ◌∷◌}
-use Prim.Native.Nat.{ℕ, zero, suc, ◌-◌, ◌*◌, ◌≤◌, ◌<◌, max, zero-le}
+use Prim.Native.Nat.{ℕ, zero, suc, ◌≤◌, ◌<◌, max, zero-le}
 use native.Mathlib.Nat.{le-max_left, le-max_right, max-le, le_trans}
 use native.Mathlib.Omega.{arith}
 use lib.Bits.{bit_and, bit_or, or_add_and, and_le_l, and_le_r}
 use lib.Dec.{eqb, ltb}
 use lib.ListN.{length, get_or}
 use borrow.Author.Tests.{eq-eqb, eqb-true, ltb-false}
-use denote.Ref.{Bor}
 use mir.Val.{bool_byte}
-use Rattle.kinds.proofs.StrengthTable.{past}
-use Rattle.descent.proofs.Borrowed.{lent_at}
-use Rattle.reader.specs.Bounds.{Lists, kinds_of, texts_of, greatest_like, tokens, texts, likes, Seen}
-
--- what is read at a place of the kinds
-pub seen : (io : Lists) (d : Bor (List ℕ)) (at v : ℕ) → d.now ≡ [] → v ≡ get_or (get_or io 0 d).now at 0
-    → v ≤ 4294967295 * (length (get_or io 0 d).now - at) → Seen io at v
-unfolding tokens
-seen io d at v e p q =
-    record {
-      is = p ∙ ap (λ (l : List ℕ). get_or l at 0) (lent_at io 0 d e);
-      there = subst (λ (l : List ℕ). v ≤ 4294967295 * (length l - at)) (lent_at io 0 d e) q;
-    }
-
--- .. and past their end
-pub unseen : (io : Lists) (d : Bor (List ℕ)) (at : ℕ) → d.now ≡ [] → length (get_or io 0 d).now ≤ at → Seen io at 0
-unseen io d at e h = seen io d at 0 e (sym (past (get_or io 0 d).now at h)) zero-le
-
--- a place that has a text
-pub has_text : (io : Lists) (d : Bor (List ℕ)) (at : ℕ) → d.now ≡ [] → at < texts io → at < length (get_or io 1 d).now
-unfolding texts
-has_text io d at e h = subst⁻¹ (λ (l : List ℕ). at < length l) (lent_at io 1 d e) h
-
-pub text_is : (io : Lists) (d : Bor (List ℕ)) (at : ℕ) → d.now ≡ [] → get_or (get_or io 1 d).now at 0 ≡ get_or (texts_of io) at 0
-text_is io d at e = ap (λ (l : List ℕ). get_or l at 0) (lent_at io 1 d e)
+use Rattle.reader.specs.declared.lists.Lists.{Lists}
+use Rattle.reader.specs.Bounds.{kinds_of, texts_of}
+use Rattle.reader.specs.Likes.{greatest_like}
 
 -- ---- the text numbers of LIKE_KW
 like_here : (b : Bool) (t g : ℕ) → b ≡ true → t ≤ cond b (max t g) g
@@ -53,9 +29,8 @@ like_below (k ∷ ks) [] i e = zero-le
 like_below (k ∷ ks) (t ∷ ts) zero e = like_here (eqb k 40) t (greatest_like ks ts) (eq-eqb k 40 e)
 like_below (k ∷ ks) (t ∷ ts) (suc i) e = like_there (eqb k 40) (get_or ts i 0) t (greatest_like ks ts) (like_below ks ts i e)
 
-pub like_text : (io : Lists) (at : ℕ) → likes io ≤ 3 → get_or (kinds_of io) at 0 ≡ 40 → get_or (texts_of io) at 0 ≤ 3
-unfolding likes
-like_text io at h e = le_trans (like_below (kinds_of io) (texts_of io) at e) h
+pub like_text : (lists : Lists) (at : ℕ) → greatest_like (kinds_of lists) (texts_of lists) ≤ 3 → get_or (kinds_of lists) at 0 ≡ 40 → get_or (texts_of lists) at 0 ≤ 3
+like_text lists at h e = le_trans (like_below (kinds_of lists) (texts_of lists) at e) h
 
 greater : (b : Bool) (t g : ℕ) → (b ≡ true → t ≤ 3) → g ≤ 3 → cond b (max t g) g ≤ 3
 greater true t g h l = max-le (h refl) l

@@ -1,53 +1,22 @@
 -- The bounds that the reader keeps: what each function needs of its caller, and what its answer is within.
 -- They say nothing of what is read, only that no sum wraps, no index is past its list, and the reading ends.
-use Rattle.std.specs.Prelude.{◌≡◌, List, [], ◌∷◌, map, ℕ, ◌+◌, ◌-◌, ◌*◌, ◌/◌, ◌%◌, ◌≤◌, ◌<◌, max, length, get_or, eqb, cond}
-use Rattle.std.specs.Borrow.{Bor}
-use Rattle.grammar.specs.Sizes.{TOKENS}
-use Rattle.kinds.specs.Strength.{strength_table}
+use Rattle.std.specs.Prelude.{◌≡◌, List, ℕ, ◌+◌, ◌-◌, ◌*◌, ◌/◌, ◌%◌, ◌≤◌, ◌<◌, length, get_or}
+use Rattle.reader.specs.declared.lists.Lists.{Lists}
 use Rattle.reader.specs.declared.Cursor.{Cursor}
 use Rattle.reader.specs.declared.refusal.Reason.{Reason}
 use Rattle.reader.specs.declared.Step.{Step}
 use Rattle.reader.specs.declared.Step.TheVariants as step
 
--- what the reader is lent: the kinds and the texts of the tokens, and the table of strengths
-abbrev pub Lists : Type 0
-Lists = List (Bor (List ℕ))
-
+-- of what the reader is lent
 abbrev pub kinds_of : Lists → List ℕ
-kinds_of io = get_or (map (λ x. x.now) io) 0 []
+kinds_of lists = lists.kinds.now
 
 abbrev pub texts_of : Lists → List ℕ
-texts_of io = get_or (map (λ x. x.now) io) 1 []
+texts_of lists = lists.texts.now
 
-abbrev pub strengths_of : Lists → List ℕ
-strengths_of io = get_or (map (λ x. x.now) io) 2 []
-
--- at how many places two lists differ
-unfoldable pub apart : List ℕ → List ℕ → ℕ
-apart [] [] = 0
-apart [] (y ∷ u) = 1
-apart (x ∷ t) [] = 1
-apart (x ∷ t) (y ∷ u) = cond (eqb x y) (apart t u) (1 + apart t u)
-
--- the greatest text number of a LIKE_KW, 0 where there is none
-abbrev pub greatest_like : List ℕ → List ℕ → ℕ
-greatest_like [] ts = 0
-greatest_like (k ∷ ks) [] = 0
-greatest_like (k ∷ ks) (t ∷ ts) = cond (eqb k 40) (max t (greatest_like ks ts)) (greatest_like ks ts)
-
--- how many tokens there are, how many texts, and the greatest text number of a LIKE_KW
-unfoldable pub tokens : Lists → ℕ
-tokens io = length (kinds_of io)
-
-unfoldable pub texts : Lists → ℕ
-texts io = length (texts_of io)
-
-unfoldable pub likes : Lists → ℕ
-likes io = greatest_like (kinds_of io) (texts_of io)
-
--- how many entries of the lent table are not 01's
-unfoldable pub unruled : Lists → ℕ
-unruled io = apart (strengths_of io) strength_table
+-- how many tokens there are
+abbrev pub tokens : Lists → ℕ
+tokens lists = length (kinds_of lists)
 
 -- what is asked is one number, 512 * level + 16 * queries open + strength asked
 unfoldable pub queries_of : ℕ → ℕ
@@ -61,38 +30,34 @@ pub record Asks (levels ask : ℕ) : Type 0 where
   pub shallow : ask < levels * 512
   pub few : queries_of ask ≤ 16
 
--- what a reader needs of its caller at a place, with so many records made: the lists are of one length and not long, and there is
--- room for the records that the reader may make of absent parts, with no token read
-pub record Ready (slack : ℕ) (io : Lists) (at made : ℕ) : Type 0 where
-  pub short : tokens io ≤ TOKENS
-  pub paired : texts io ≡ tokens io
-  pub liked : likes io ≤ 3
-  pub ruled : unruled io ≡ 0
-  pub inside : at ≤ tokens io
+-- what a reader needs of its caller at a place, with so many records made: it is within the list, and there is room for the records
+-- that the reader may make of absent parts, with no token read
+pub record Ready (slack : ℕ) (lists : Lists) (at made : ℕ) : Type 0 where
+  pub inside : at ≤ tokens lists
   pub room : made + slack ≤ 8 * (at + 1)
 
 -- the kind at a place: 0 past the end of the list, so that another one stands within
-pub record Seen (io : Lists) (at kind : ℕ) : Type 0 where
-  pub is : kind ≡ get_or (kinds_of io) at 0
-  pub there : kind ≤ 4294967295 * (tokens io - at)
+pub record Seen (lists : Lists) (at kind : ℕ) : Type 0 where
+  pub is : kind ≡ get_or (kinds_of lists) at 0
+  pub there : kind ≤ 4294967295 * (tokens lists - at)
 
 -- where a part ends that began at a place with so many records made: at least so many tokens on, within the list, with at most
 -- eight records more for a token and those of absent parts
-pub record Ends (reads slack : ℕ) (io : Lists) (at made said count : ℕ) (d : Cursor) : Type 0 where
+pub record Ends (reads slack : ℕ) (lists : Lists) (at made said count : ℕ) (d : Cursor) : Type 0 where
   pub on : at + reads ≤ d.at
-  pub inside : d.at ≤ tokens io
+  pub inside : d.at ≤ tokens lists
   pub more : made ≤ d.made
   pub room : d.made + 8 * at ≤ made + 8 * d.at + slack
   pub counted : count ≤ d.at
   pub small : said ≤ 127
 
 abbrev pub WithinAt : ℕ → ℕ → Lists → ℕ → ℕ → Step → Type 0
-WithinAt reads slack io at made (step.Got said count d) = Ends reads slack io at made said count d
-WithinAt reads slack io at made (step.Refused n p) = p ≤ tokens io
+WithinAt reads slack lists at made (step.Got said count d) = Ends reads slack lists at made said count d
+WithinAt reads slack lists at made (step.Refused n p) = p ≤ tokens lists
 
 -- what an answer is within: a part that ends so, or a refusal within the list
-pub record Within (reads slack : ℕ) (io : Lists) (at made : ℕ) (r : Step) : Type 0 where
-  pub holds : WithinAt reads slack io at made r
+pub record Within (reads slack : ℕ) (lists : Lists) (at made : ℕ) (r : Step) : Type 0 where
+  pub holds : WithinAt reads slack lists at made r
 
 -- a refusal at a place
 pub record Refuses (at : ℕ) (r : Step) : Type 0 where
@@ -131,4 +96,4 @@ refusal_of why at = step.Refused why at
 
 -- the measure of the readers, which call one another: tokens left, then the rank of the reader
 abbrev pub rank : ℕ → Lists → ℕ → ℕ
-rank k io at = (tokens io - at) * 64 + k
+rank k lists at = (tokens lists - at) * 64 + k

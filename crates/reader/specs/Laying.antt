@@ -11,7 +11,8 @@ use Rattle.grammar.specs.Promise.{AllFit, FirstUnfit, tokens as promised}
 use Rattle.descent.proofs.Places.{wrong}
 use Rattle.descent.proofs.Walk.{Walked, done, stop, bind, over, missing, name_rec, rows_w}
 use Rattle.descent.proofs.Fill.{Filled}
-use Rattle.reader.specs.Bounds.{Lists, kinds_of, texts_of}
+use Rattle.reader.specs.declared.lists.Lists.{Lists}
+use Rattle.reader.specs.Bounds.{kinds_of, texts_of}
 use Rattle.reader.specs.Refusals.{number_of}
 use Rattle.reader.specs.declared.refusal.Reason.{Reason}
 use Rattle.reader.specs.declared.Step.{Step}
@@ -27,7 +28,7 @@ pub record Laid (made : ℕ) (N N' : List ℕ) (w : Walked) (r : Step) : Type 0 
 
 -- of a walk over the lent lists
 abbrev pub Lays : ℕ → List ℕ → List ℕ → Lists → (List ℕ → List ℕ → Walked) → Step → Type 0
-Lays made N N' io walk r = Laid made N N' (walk (kinds_of io) (texts_of io)) r
+Lays made N N' lists walk r = Laid made N N' (walk (kinds_of lists) (texts_of lists)) r
 
 -- ── fuel, and what is asked ──
 -- with enough fuel
@@ -46,8 +47,8 @@ pub record Passes (change : Around → Around) (ask s r : ℕ) : Type 0 where
   pub packs : (c : Around) (s₀ : ℕ) → Packed c s₀ ask → Packed (change c) s r
 
 -- a walk for which strength s is asked
-pub record Does (s ask made : ℕ) (N N' : List ℕ) (io : Lists) (walk : List ℕ → List ℕ → ℕ → Around → Walked) (r : Step) : Type 0 where
-  pub does : (c : Around) → Packed c s ask → Later (λ f. Laid made N N' (walk (kinds_of io) (texts_of io) f c) r)
+pub record Does (s ask made : ℕ) (N N' : List ℕ) (lists : Lists) (walk : List ℕ → List ℕ → ℕ → Around → Walked) (r : Step) : Type 0 where
+  pub does : (c : Around) → Packed c s ask → Later (λ f. Laid made N N' (walk (kinds_of lists) (texts_of lists) f c) r)
 
 -- a loop: whatever the walk w' comes to from here on, the walk w comes to from its beginning on
 pub record Onward (start made : ℕ) (N N₁ : List ℕ) (w w' : ℕ → Walked) : Type 0 where
@@ -76,11 +77,11 @@ absences (suc n) = missing ∷ absences n
 
 -- the name at a place
 abbrev pub name_at : Lists → ℕ → List Rec
-name_at io at = name_rec (kinds_of io) (texts_of io) at ∷ []
+name_at lists at = name_rec (kinds_of lists) (texts_of lists) at ∷ []
 
 -- the text number of a literal; NULL has none
 abbrev pub literal_text : Lists → ℕ → ℕ → ℕ
-literal_text io at kind = choose (eqb kind NULL) 0 (get_or (texts_of io) at 0)
+literal_text lists at kind = choose (eqb kind NULL) 0 (get_or (texts_of lists) at 0)
 
 -- after NOT: NULL, before `next`
 abbrev pub not_null_w : ℕ → ℕ → ℕ → ℕ → Walked

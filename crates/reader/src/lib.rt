@@ -2,6 +2,7 @@
 // empty table, judges and counts; the second writes.
 #![tactic(auto)]
 
+mod lists;
 mod refusal;
 
 ghost use Rattle.std.specs.Prelude.{◌≡◌, ℕ, ◌+◌, ◌-◌, ◌*◌, ◌/◌, ◌<◌, ◌≤◌, min, true, List, [], ◌∷◌, ◌++◌, eqb, length, get_or};
@@ -13,7 +14,8 @@ ghost use Rattle.descent.proofs.Fill.{Filled};
 ghost use Rattle.descent.proofs.Walk.{done, bind, deeper, name_rec, name_w, close_w, dotted_w, dots_w, called_w, collate_w, alias_w, qualified_w, index_w, table_w, lent_w, nulls_w, way_w, joined_w, using_w, ended_w, expr_w, leaf_w, operand_w, ops_w, op_w, binary_w, range_w, after_w, among_w, list_w, sign_w, call_w, paren_w, sub_w, exists_w, case_w, cased_w, when_w, cast_w, query_w, body_w, tail_w, row_w, select_w, parts_w, clause_w, group_w, cols_w, col_w, from_w, joins_w, on_w, source_w, sort_w, limit_w, command_w};
 ghost use Rattle.reader.specs.Laying.{Laid, Lays, Later, Passes, Does, Misfit, TooDeep, one, absences, name_at, literal_text, not_null_w, all_rows_w, is_bare, begins_join, FitLists, UnfitAt};
 ghost use Rattle.reader.specs.Turning.{swapped_at, Turned};
-ghost use Rattle.reader.specs.Bounds.{tokens, kinds_of, texts_of, greatest_like, queries_of, strength_asked, Asks, Ready, Seen, Within, Refuses, OneOn, Opens, NullBefore, got_of, refusal_of, unruled};
+ghost use Rattle.reader.specs.Likes.{greatest_like};
+ghost use Rattle.reader.specs.Bounds.{tokens, kinds_of, texts_of, queries_of, strength_asked, Asks, Ready, Seen, Within, Refuses, OneOn, Opens, NullBefore, got_of, refusal_of};
 ghost use Rattle.reader.specs.Answers.{number, place, Few, Plain};
 ghost use Rattle.grammar.specs.Promise.{Lent, Reads};
 ghost use Rattle.grammar.specs.Sizes.{WIDTH};
@@ -26,6 +28,7 @@ use kinds::{
     OFFSET, ON, ORDER, PLUS, RP, SELECT, SEMI, STAR, STRING, THEN, USING, VALUES, VARIABLE, WHEN,
     WHERE,
 };
+use lists::Lists;
 pub use refusal::{Reason, Refusal};
 
 // The place of the next token, and the records made.
@@ -94,31 +97,29 @@ fn queries(ask: u32) -> u32
     ask % LEVEL / QUERY
 }
 
-// By the table that is lent with the lists.
-fn strength(io: &[&[u32]; 3], kind: u32) -> u32
-    requires { unruled io.now ≡ 0 }
+fn strength(lists: &Lists, kind: u32) -> u32
     ensures { result ≡ strength_of kind }
 {
-    let table = io[2];
-    kinds::strength(table, kind)
+    kinds::strength(lists.strengths, kind)
 }
 
 // The kind at a place; 0 at the end of the list.
-fn peek(io: &[&[u32]; 3], at: u32) -> u32
-    ensures { Seen io.now at result }
+fn peek(lists: &Lists, at: u32) -> u32
+    ensures { Seen lists.now at result }
 {
-    let k = io[0];
     let i = at as usize;
-    if i < k.len() { k[i] } else { 0 }
+    if i < lists.kinds.len() {
+        lists.kinds[i]
+    } else {
+        0
+    }
 }
 
-fn text(io: &[&[u32]; 3], at: u32) -> u32
-    requires { Ready 0 io.now at 0 × (at < tokens io.now) }
-    ensures { result ≡ get_or (texts_of io.now) at 0 }
+fn text(lists: &Lists, at: u32) -> u32
+    requires { at < tokens lists.now }
+    ensures { result ≡ get_or (texts_of lists.now) at 0 }
 {
-    let t = io[1];
-    let i = at as usize;
-    t[i]
+    lists.texts[at as usize]
 }
 
 // A refusal, written over a whole answer: the compiler would carry the stale rest of an answer along.
@@ -209,39 +210,31 @@ fn missing(nodes: &mut [u32], made: u32, n: u32) -> u32
 }
 
 // A name, of which the kind is known.
-fn named(io: &[&[u32]; 3], nodes: &mut [u32], at: u32, made: u32, kind: u32) -> u32
-    requires { Ready 0 io.now at made × (at < tokens io.now) }
-    ensures { (result ≡ made + 1) × (kind ≡ get_or (kinds_of io.now) at 0 → Filled nodes.old nodes.new made result (name_at io.now at)) }
+fn named(lists: &Lists, nodes: &mut [u32], at: u32, made: u32, kind: u32) -> u32
+    requires { Ready 0 lists.now at made × (at < tokens lists.now) }
+    ensures { (result ≡ made + 1) × (kind ≡ get_or (kinds_of lists.now) at 0 → Filled nodes.old nodes.new made result (name_at lists.now at)) }
 {
-    emit(nodes, made, kinds::name_code(kind), text(io, at), 0, 1)
+    emit(nodes, made, kinds::name_code(kind), text(lists, at), 0, 1)
 }
 
-fn name(io: &[&[u32]; 3], nodes: &mut [u32], at: u32, made: u32) -> Step
-    requires { Ready 0 io.now at made }
-    ensures { Within 1 0 io.now at made result × OneOn at result × Lays made nodes.old nodes.new io.now (λ K T. name_w K T at) result }
+fn name(lists: &Lists, nodes: &mut [u32], at: u32, made: u32) -> Step
+    requires { Ready 0 lists.now at made }
+    ensures { Within 1 0 lists.now at made result × OneOn at result × Lays made nodes.old nodes.new lists.now (λ K T. name_w K T at) result }
 {
-    let kind = peek(io, at);
+    let kind = peek(lists, at);
     if !kinds::is_name(kind) {
         return wrong(kind, at);
     }
-    let m = named(io, nodes, at, made, kind);
+    let m = named(lists, nodes, at, made, kind);
     got(at + 1, m, 0)
 }
 
 // Expects RP, and closes over n children with a record.
-fn close(
-    io: &[&[u32]; 3],
-    nodes: &mut [u32],
-    at: u32,
-    made: u32,
-    base: u32,
-    code: u32,
-    n: u32,
-) -> Step
-    requires { Ready 0 io.now at made × (base ≤ made) }
-    ensures { Within 1 0 io.now at made result × ((pre : ℕ) → made ≡ base + pre → Lays made nodes.old nodes.new io.now (λ K T. close_w K T at code 0 n pre) result) }
+fn close(lists: &Lists, nodes: &mut [u32], at: u32, made: u32, base: u32, code: u32, n: u32) -> Step
+    requires { Ready 0 lists.now at made × (base ≤ made) }
+    ensures { Within 1 0 lists.now at made result × ((pre : ℕ) → made ≡ base + pre → Lays made nodes.old nodes.new lists.now (λ K T. close_w K T at code 0 n pre) result) }
 {
-    let kind = peek(io, at);
+    let kind = peek(lists, at);
     if kind != RP {
         return wrong(kind, at);
     }
@@ -251,76 +244,76 @@ fn close(
 
 // ---- expressions
 
-fn literal_text(io: &[&[u32]; 3], at: u32, kind: u32) -> u32
-    requires { Ready 0 io.now at 0 × (at < tokens io.now) }
-    ensures { result ≡ literal_text io.now at kind }
+fn literal_text(lists: &Lists, at: u32, kind: u32) -> u32
+    requires { at < tokens lists.now }
+    ensures { result ≡ literal_text lists.now at kind }
 {
     if kind == NULL {
         return 0;
     }
-    text(io, at)
+    text(lists, at)
 }
 
 // Through a function of its own, which is taken into each caller: so the places of its answer are shared there, and frames are small.
 #[cycle(walk)]
-fn expr(io: &[&[u32]; 3], nodes: &mut [u32], at: u32, made: u32, ask: u32) -> Step
-    requires { Ready 0 io.now at made × Asks 66 ask }
-    ensures { Within 1 0 io.now at made result × ((s : ℕ) → Does s ask made nodes.old nodes.new io.now (λ K T f c. expr_w K T f at c s) result) }
+fn expr(lists: &Lists, nodes: &mut [u32], at: u32, made: u32, ask: u32) -> Step
+    requires { Ready 0 lists.now at made × Asks 66 ask }
+    ensures { Within 1 0 lists.now at made result × ((s : ℕ) → Does s ask made nodes.old nodes.new lists.now (λ K T f c. expr_w K T f at c s) result) }
 {
-    ex(io, nodes, at, made, ask)
+    ex(lists, nodes, at, made, ask)
 }
 
 // An operand, and the operators that go on from it.
 #[cycle(walk)]
-fn ex(io: &[&[u32]; 3], nodes: &mut [u32], at: u32, made: u32, ask: u32) -> Step
-    requires { Ready 0 io.now at made × Asks 66 ask }
-    ensures { Within 1 0 io.now at made result × ((s : ℕ) → Does s ask made nodes.old nodes.new io.now (λ K T f c. expr_w K T f at c s) result) }
+fn ex(lists: &Lists, nodes: &mut [u32], at: u32, made: u32, ask: u32) -> Step
+    requires { Ready 0 lists.now at made × Asks 66 ask }
+    ensures { Within 1 0 lists.now at made result × ((s : ℕ) → Does s ask made nodes.old nodes.new lists.now (λ K T f c. expr_w K T f at c s) result) }
 {
-    let kind = peek(io, at);
+    let kind = peek(lists, at);
     if ask >= TOO_DEEP {
         return too_deep(kind, at, ask);
     }
     let first = match kind {
-        ID..=NULL => leaf(io, nodes, at, made, kind, ask),
-        _ => operand(io, nodes, at, made, kind, ask),
+        ID..=NULL => leaf(lists, nodes, at, made, kind, ask),
+        _ => operand(lists, nodes, at, made, kind, ask),
     };
     let Step::Got(s_d, _, d) = first else {
         return first;
     };
-    ops(io, nodes, d.at, d.made, made, s_d as u32, ask)
+    ops(lists, nodes, d.at, d.made, made, s_d as u32, ask)
 }
 
 #[cycle(walk)]
-fn leaf(io: &[&[u32]; 3], nodes: &mut [u32], at: u32, made: u32, kind: u32, ask: u32) -> Step
-    requires { Ready 0 io.now at made × Asks 65 ask × (at < tokens io.now) × Seen io.now at kind × (0 < kind) × (kind ≤ 11) }
-    ensures { Within 1 0 io.now at made result × ((s : ℕ) → Does s ask made nodes.old nodes.new io.now (λ K T f c. leaf_w K T f at c s) result) }
+fn leaf(lists: &Lists, nodes: &mut [u32], at: u32, made: u32, kind: u32, ask: u32) -> Step
+    requires { Ready 0 lists.now at made × Asks 65 ask × (at < tokens lists.now) × Seen lists.now at kind × (0 < kind) × (kind ≤ 11) }
+    ensures { Within 1 0 lists.now at made result × ((s : ℕ) → Does s ask made nodes.old nodes.new lists.now (λ K T f c. leaf_w K T f at c s) result) }
 {
     let code = kinds::literal_code(kind);
     if code > 0 {
-        let m = emit(nodes, made, code, literal_text(io, at, kind), 0, 1);
+        let m = emit(nodes, made, code, literal_text(lists, at, kind), 0, 1);
         return got(at + 1, m, 12);
     }
-    let m = named(io, nodes, at, made, kind);
-    let next = peek(io, at + 1);
+    let m = named(lists, nodes, at, made, kind);
+    let next = peek(lists, at + 1);
     if next == LP {
         if kind != INDEXED {
-            return call(io, nodes, at + 2, m, deeper(ask, 1));
+            return call(lists, nodes, at + 2, m, deeper(ask, 1));
         }
     }
-    dotted(io, nodes, at + 1, m, next, asked(ask))
+    dotted(lists, nodes, at + 1, m, next, asked(ask))
 }
 
 #[cycle(walk)]
-fn operand(io: &[&[u32]; 3], nodes: &mut [u32], at: u32, made: u32, kind: u32, ask: u32) -> Step
-    requires { Ready 0 io.now at made × Asks 65 ask × Seen io.now at kind }
-    ensures { Within 1 0 io.now at made result × ((s : ℕ) → Does s ask made nodes.old nodes.new io.now (λ K T f c. operand_w K T f at c s) result) }
+fn operand(lists: &Lists, nodes: &mut [u32], at: u32, made: u32, kind: u32, ask: u32) -> Step
+    requires { Ready 0 lists.now at made × Asks 65 ask × Seen lists.now at kind }
+    ensures { Within 1 0 lists.now at made result × ((s : ℕ) → Does s ask made nodes.old nodes.new lists.now (λ K T f c. operand_w K T f at c s) result) }
 {
     match kind {
-        LP => paren(io, nodes, at + 1, made, deeper(ask, 1)),
-        CASE => case(io, nodes, at + 1, made, deeper(ask, 1)),
-        CAST => cast(io, nodes, at + 1, made, deeper(ask, 1)),
-        EXISTS => exists(io, nodes, at + 1, made, deeper(ask, 1)),
-        NOT | PLUS | MINUS | BITNOT => sign(io, nodes, at, made, kind, ask),
+        LP => paren(lists, nodes, at + 1, made, deeper(ask, 1)),
+        CASE => case(lists, nodes, at + 1, made, deeper(ask, 1)),
+        CAST => cast(lists, nodes, at + 1, made, deeper(ask, 1)),
+        EXISTS => exists(lists, nodes, at + 1, made, deeper(ask, 1)),
+        NOT | PLUS | MINUS | BITNOT => sign(lists, nodes, at, made, kind, ask),
         _ => wrong(kind, at),
     }
 }
@@ -354,7 +347,7 @@ fn least(a: u32, b: u32) -> u32
 // The operators that go on from an operand that leaves `first`: the tightest of them that may.
 #[cycle(walk)]
 fn ops(
-    io: &[&[u32]; 3],
+    lists: &Lists,
     nodes: &mut [u32],
     from: u32,
     start: u32,
@@ -362,16 +355,16 @@ fn ops(
     first: u32,
     ask: u32,
 ) -> Step
-    requires { Ready 0 io.now from start × Asks 65 ask × (base ≤ start) × (first ≤ 127) }
-    ensures { Within 0 0 io.now from start result × ((s pre : ℕ) → start ≡ base + pre → Does s ask start nodes.old nodes.new io.now (λ K T f c. ops_w K T f from c s first pre) result) }
+    requires { Ready 0 lists.now from start × Asks 65 ask × (base ≤ start) × (first ≤ 127) }
+    ensures { Within 0 0 lists.now from start result × ((s pre : ℕ) → start ≡ base + pre → Does s ask start nodes.old nodes.new lists.now (λ K T f c. ops_w K T f from c s first pre) result) }
 {
     let s = asked(ask);
     let mut at = from;
     let mut made = start;
     let mut left = first;
     loop {
-        let kind = peek(io, at);
-        let k = strength(io, kind);
+        let kind = peek(lists, at);
+        let k = strength(lists, kind);
         if k == 0 {
             break;
         }
@@ -381,7 +374,7 @@ fn ops(
         if left < k {
             break;
         }
-        let r = op(io, nodes, at, made, base, kind, deeper(ask, k + 1));
+        let r = op(lists, nodes, at, made, base, kind, deeper(ask, k + 1));
         let Step::Got(said, _, d) = r else {
             return r;
         };
@@ -393,34 +386,30 @@ fn ops(
 }
 
 #[cycle(walk)]
-fn op(
-    io: &[&[u32]; 3],
-    nodes: &mut [u32],
-    at: u32,
-    made: u32,
-    base: u32,
-    kind: u32,
-    ask: u32,
-) -> Step
-    requires { Ready 0 io.now at made × Asks 66 ask × (base ≤ made) × Seen io.now at kind × (0 < kind) }
-    ensures { Within 1 0 io.now at made result × ((s pre : ℕ) → made ≡ base + pre → Does s ask made nodes.old nodes.new io.now (λ K T f c. op_w K T f at c s pre) result) }
+fn op(lists: &Lists, nodes: &mut [u32], at: u32, made: u32, base: u32, kind: u32, ask: u32) -> Step
+    requires { Ready 0 lists.now at made × Asks 66 ask × (base ≤ made) × Seen lists.now at kind × (0 < kind) }
+    ensures { Within 1 0 lists.now at made result × ((s pre : ℕ) → made ≡ base + pre → Does s ask made nodes.old nodes.new lists.now (λ K T f c. op_w K T f at c s pre) result) }
 {
     if kind < NOT {
-        return binary(io, nodes, at + 1, made, base, kind, ask);
+        return binary(lists, nodes, at + 1, made, base, kind, ask);
     }
     let not: u32 = if kind == NOT { 1 } else { 0 };
-    let word = if kind == NOT { peek(io, at + 1) } else { kind };
+    let word = if kind == NOT {
+        peek(lists, at + 1)
+    } else {
+        kind
+    };
     let next = at + not + 1;
     match word {
-        IN => among(io, nodes, next, made, base, not, ask),
-        BETWEEN => range(io, nodes, next, made, base, not, ask),
+        IN => among(lists, nodes, next, made, base, not, ask),
+        BETWEEN => range(lists, nodes, next, made, base, not, ask),
         LIKE_KW => binary(
-            io,
+            lists,
             nodes,
             next,
             made,
             base,
-            200 + 100 * not + text(io, at + not),
+            200 + 100 * not + text(lists, at + not),
             ask,
         ),
         _ => {
@@ -429,10 +418,18 @@ fn op(
             }
             match kind {
                 IS => {
-                    let isnot: u32 = if peek(io, next) == NOT { 1 } else { 0 };
-                    binary(io, nodes, next + isnot, made, base, IS + 100 * isnot, ask)
+                    let isnot: u32 = if peek(lists, next) == NOT { 1 } else { 0 };
+                    binary(
+                        lists,
+                        nodes,
+                        next + isnot,
+                        made,
+                        base,
+                        IS + 100 * isnot,
+                        ask,
+                    )
                 }
-                COLLATE => collate(io, nodes, next, made, base),
+                COLLATE => collate(lists, nodes, next, made, base),
                 _ => {
                     let m = emit(nodes, made, 40, kind, 1, made - base + 1);
                     got(next, m, 12)
@@ -455,7 +452,7 @@ fn notnull(nodes: &mut [u32], next: u32, made: u32, base: u32, word: u32) -> Ste
 
 #[cycle(walk)]
 fn binary(
-    io: &[&[u32]; 3],
+    lists: &Lists,
     nodes: &mut [u32],
     at: u32,
     made: u32,
@@ -463,10 +460,10 @@ fn binary(
     detail: u32,
     ask: u32,
 ) -> Step
-    requires { Ready 1 io.now at made × Asks 66 ask × (base ≤ made) }
-    ensures { Within 1 1 io.now at made result × ((s pre : ℕ) → made ≡ base + pre → Does s ask made nodes.old nodes.new io.now (λ K T f c. binary_w K T f at c s detail pre) result) }
+    requires { Ready 1 lists.now at made × Asks 66 ask × (base ≤ made) }
+    ensures { Within 1 1 lists.now at made result × ((s pre : ℕ) → made ≡ base + pre → Does s ask made nodes.old nodes.new lists.now (λ K T f c. binary_w K T f at c s detail pre) result) }
 {
-    let r = expr(io, nodes, at, made, ask);
+    let r = expr(lists, nodes, at, made, ask);
     let Step::Got(said, _, d) = r else {
         return r;
     };
@@ -474,11 +471,11 @@ fn binary(
     got(d.at, m, said)
 }
 
-fn collate(io: &[&[u32]; 3], nodes: &mut [u32], at: u32, made: u32, base: u32) -> Step
-    requires { Ready 1 io.now at made × (base ≤ made) }
-    ensures { Within 1 1 io.now at made result × ((pre : ℕ) → made ≡ base + pre → Lays made nodes.old nodes.new io.now (λ K T. collate_w K T at pre) result) }
+fn collate(lists: &Lists, nodes: &mut [u32], at: u32, made: u32, base: u32) -> Step
+    requires { Ready 1 lists.now at made × (base ≤ made) }
+    ensures { Within 1 1 lists.now at made result × ((pre : ℕ) → made ≡ base + pre → Lays made nodes.old nodes.new lists.now (λ K T. collate_w K T at pre) result) }
 {
-    let r = name(io, nodes, at, made);
+    let r = name(lists, nodes, at, made);
     let Step::Got(_, _, d) = r else {
         return r;
     };
@@ -488,7 +485,7 @@ fn collate(io: &[&[u32]; 3], nodes: &mut [u32], at: u32, made: u32, base: u32) -
 
 #[cycle(walk)]
 fn range(
-    io: &[&[u32]; 3],
+    lists: &Lists,
     nodes: &mut [u32],
     at: u32,
     made: u32,
@@ -496,14 +493,14 @@ fn range(
     not: u32,
     ask: u32,
 ) -> Step
-    requires { Ready 1 io.now at made × Asks 66 ask × (base ≤ made) }
-    ensures { Within 1 1 io.now at made result × ((s pre : ℕ) → made ≡ base + pre → Does s ask made nodes.old nodes.new io.now (λ K T f c. range_w K T f at c s not pre) result) }
+    requires { Ready 1 lists.now at made × Asks 66 ask × (base ≤ made) }
+    ensures { Within 1 1 lists.now at made result × ((s pre : ℕ) → made ≡ base + pre → Does s ask made nodes.old nodes.new lists.now (λ K T f c. range_w K T f at c s not pre) result) }
 {
-    let low = expr(io, nodes, at, made, ask);
+    let low = expr(lists, nodes, at, made, ask);
     let Step::Got(_, _, c) = low else {
         return low;
     };
-    let high = after(io, nodes, c.at, c.made, AND, ask);
+    let high = after(lists, nodes, c.at, c.made, AND, ask);
     let Step::Got(said, _, e) = high else {
         return high;
     };
@@ -513,21 +510,21 @@ fn range(
 
 // A word, and an expression.
 #[cycle(walk)]
-fn after(io: &[&[u32]; 3], nodes: &mut [u32], at: u32, made: u32, word: u32, ask: u32) -> Step
-    requires { Ready 0 io.now at made × Asks 66 ask × (0 < word) }
-    ensures { Within 1 0 io.now at made result × ((s : ℕ) → Does s ask made nodes.old nodes.new io.now (λ K T f c. after_w K T f at word c s) result) }
+fn after(lists: &Lists, nodes: &mut [u32], at: u32, made: u32, word: u32, ask: u32) -> Step
+    requires { Ready 0 lists.now at made × Asks 66 ask × (0 < word) }
+    ensures { Within 1 0 lists.now at made result × ((s : ℕ) → Does s ask made nodes.old nodes.new lists.now (λ K T f c. after_w K T f at word c s) result) }
 {
-    let kind = peek(io, at);
+    let kind = peek(lists, at);
     if kind != word {
         return wrong(kind, at);
     }
-    expr(io, nodes, at + 1, made, ask)
+    expr(lists, nodes, at + 1, made, ask)
 }
 
 // After IN.
 #[cycle(walk)]
 fn among(
-    io: &[&[u32]; 3],
+    lists: &Lists,
     nodes: &mut [u32],
     at: u32,
     made: u32,
@@ -535,40 +532,40 @@ fn among(
     not: u32,
     ask: u32,
 ) -> Step
-    requires { Ready 0 io.now at made × Asks 66 ask × (base ≤ made) }
-    ensures { Within 1 0 io.now at made result × ((s pre : ℕ) → made ≡ base + pre → Does s ask made nodes.old nodes.new io.now (λ K T f c. among_w K T f at c not pre) result) }
+    requires { Ready 0 lists.now at made × Asks 66 ask × (base ≤ made) }
+    ensures { Within 1 0 lists.now at made result × ((s pre : ℕ) → made ≡ base + pre → Does s ask made nodes.old nodes.new lists.now (λ K T f c. among_w K T f at c not pre) result) }
 {
-    let lp = peek(io, at);
+    let lp = peek(lists, at);
     if lp != LP {
         return wrong(lp, at);
     }
-    let kind = peek(io, at + 1);
+    let kind = peek(lists, at + 1);
     match kind {
         SELECT | VALUES => {
-            let q = query(io, nodes, at + 1, made, asking(ask, 0));
+            let q = query(lists, nodes, at + 1, made, asking(ask, 0));
             let Step::Got(_, _, d) = q else {
                 return q;
             };
-            ended(io, nodes, d.at, d.made, base, 42, not)
+            ended(lists, nodes, d.at, d.made, base, 42, not)
         }
         RP => {
             let m = emit(nodes, made, 4, 0, 0, 1);
-            ended(io, nodes, at + 1, m, base, 41, not)
+            ended(lists, nodes, at + 1, m, base, 41, not)
         }
         _ => {
-            let l = list(io, nodes, at + 1, made, asking(ask, 1));
+            let l = list(lists, nodes, at + 1, made, asking(ask, 1));
             let Step::Got(_, n_d, d) = l else {
                 return l;
             };
             let m = emit(nodes, d.made, 4, 0, n_d as u32, d.made - made + 1);
-            ended(io, nodes, d.at, m, base, 41, not)
+            ended(lists, nodes, d.at, m, base, 41, not)
         }
     }
 }
 
 // RP of IN.
 fn ended(
-    io: &[&[u32]; 3],
+    lists: &Lists,
     nodes: &mut [u32],
     at: u32,
     made: u32,
@@ -576,10 +573,10 @@ fn ended(
     code: u32,
     not: u32,
 ) -> Step
-    requires { Ready 0 io.now at made × (base ≤ made) }
-    ensures { Within 1 0 io.now at made result × ((pre m : ℕ) (N : List ℕ) (rs : List Rec) → m ≡ base + pre → Filled N nodes.old m made rs → Lays m N nodes.new io.now (λ K T. ended_w K T at code not pre rs) result) }
+    requires { Ready 0 lists.now at made × (base ≤ made) }
+    ensures { Within 1 0 lists.now at made result × ((pre m : ℕ) (N : List ℕ) (rs : List Rec) → m ≡ base + pre → Filled N nodes.old m made rs → Lays m N nodes.new lists.now (λ K T. ended_w K T at code not pre rs) result) }
 {
-    let kind = peek(io, at);
+    let kind = peek(lists, at);
     if kind != RP {
         return wrong(kind, at);
     }
@@ -589,22 +586,22 @@ fn ended(
 
 // { expression , }: says how many.
 #[cycle(walk)]
-fn list(io: &[&[u32]; 3], nodes: &mut [u32], from: u32, start: u32, ask: u32) -> Step
-    requires { Ready 0 io.now from start × Asks 66 ask }
-    ensures { Within 1 0 io.now from start result × Does 1 ask start nodes.old nodes.new io.now (λ K T f c. list_w K T f from c 0) result }
+fn list(lists: &Lists, nodes: &mut [u32], from: u32, start: u32, ask: u32) -> Step
+    requires { Ready 0 lists.now from start × Asks 66 ask }
+    ensures { Within 1 0 lists.now from start result × Does 1 ask start nodes.old nodes.new lists.now (λ K T f c. list_w K T f from c 0) result }
 {
     let mut at = from;
     let mut made = start;
     let mut n: u32 = 0;
     loop {
-        let r = expr(io, nodes, at, made, ask);
+        let r = expr(lists, nodes, at, made, ask);
         let Step::Got(_, _, d) = r else {
             return r;
         };
         made = d.made;
         n += 1;
         at = d.at;
-        let kind = peek(io, at);
+        let kind = peek(lists, at);
         if kind != COMMA {
             break;
         }
@@ -614,9 +611,9 @@ fn list(io: &[&[u32]; 3], nodes: &mut [u32], from: u32, start: u32, ask: u32) ->
 }
 
 #[cycle(walk)]
-fn sign(io: &[&[u32]; 3], nodes: &mut [u32], at: u32, made: u32, kind: u32, ask: u32) -> Step
-    requires { Ready 0 io.now at made × Asks 65 ask × (at < tokens io.now) × Seen io.now at kind }
-    ensures { Within 1 0 io.now at made result × ((s : ℕ) → Does s ask made nodes.old nodes.new io.now (λ K T f c. sign_w K T f at c s) result) }
+fn sign(lists: &Lists, nodes: &mut [u32], at: u32, made: u32, kind: u32, ask: u32) -> Step
+    requires { Ready 0 lists.now at made × Asks 65 ask × (at < tokens lists.now) × Seen lists.now at kind }
+    ensures { Within 1 0 lists.now at made result × ((s : ℕ) → Does s ask made nodes.old nodes.new lists.now (λ K T f c. sign_w K T f at c s) result) }
 {
     let p = kinds::prefix(kind);
     if kind == NOT {
@@ -624,7 +621,7 @@ fn sign(io: &[&[u32]; 3], nodes: &mut [u32], at: u32, made: u32, kind: u32, ask:
             return wrong(kind, at);
         }
     }
-    let r = expr(io, nodes, at + 1, made, deeper(ask, p));
+    let r = expr(lists, nodes, at + 1, made, deeper(ask, p));
     let Step::Got(said, _, d) = r else {
         return r;
     };
@@ -633,38 +630,38 @@ fn sign(io: &[&[u32]; 3], nodes: &mut [u32], at: u32, made: u32, kind: u32, ask:
 }
 
 // A call, or up to three names; in a column, name DOT STAR.
-fn dotted(io: &[&[u32]; 3], nodes: &mut [u32], at: u32, made: u32, kind: u32, s: u32) -> Step
-    requires { Ready 1 io.now at made × Seen io.now at kind }
-    ensures { Within 0 1 io.now at made result × Lays made nodes.old nodes.new io.now (λ K T. dotted_w K T at s) result }
+fn dotted(lists: &Lists, nodes: &mut [u32], at: u32, made: u32, kind: u32, s: u32) -> Step
+    requires { Ready 1 lists.now at made × Seen lists.now at kind }
+    ensures { Within 0 1 lists.now at made result × Lays made nodes.old nodes.new lists.now (λ K T. dotted_w K T at s) result }
 {
     if kind != DOT {
         let m = emit(nodes, made, 31, 0, 1, 2);
         return got(at, m, 12);
     }
     if s == COLUMN {
-        if peek(io, at + 1) == STAR {
+        if peek(lists, at + 1) == STAR {
             let m = emit(nodes, made, 6, 0, 1, 2);
             return got(at + 2, m, 0);
         }
     }
-    dots(io, nodes, at, made)
+    dots(lists, nodes, at, made)
 }
 
 // DOT name [ DOT name ] after a name, and the record over them.
-fn dots(io: &[&[u32]; 3], nodes: &mut [u32], at: u32, made: u32) -> Step
-    requires { Ready 0 io.now at made × (at < tokens io.now) }
-    ensures { Within 1 0 io.now at made result × Lays made nodes.old nodes.new io.now (λ K T. dots_w K T at) result }
+fn dots(lists: &Lists, nodes: &mut [u32], at: u32, made: u32) -> Step
+    requires { Ready 0 lists.now at made × (at < tokens lists.now) }
+    ensures { Within 1 0 lists.now at made result × Lays made nodes.old nodes.new lists.now (λ K T. dots_w K T at) result }
 {
-    let r = name(io, nodes, at + 1, made);
+    let r = name(lists, nodes, at + 1, made);
     let Step::Got(_, _, c) = r else {
         return r;
     };
-    let next = peek(io, c.at);
+    let next = peek(lists, c.at);
     if next != DOT {
         let m = emit(nodes, c.made, 31, 0, 2, 3);
         return got(c.at, m, 12);
     }
-    let q = name(io, nodes, c.at + 1, c.made);
+    let q = name(lists, nodes, c.at + 1, c.made);
     let Step::Got(_, _, d) = q else {
         return q;
     };
@@ -674,20 +671,20 @@ fn dots(io: &[&[u32]; 3], nodes: &mut [u32], at: u32, made: u32) -> Step
 
 // After LP of a call, whose name is the last record.
 #[cycle(walk)]
-fn call(io: &[&[u32]; 3], nodes: &mut [u32], at: u32, made: u32, ask: u32) -> Step
-    requires { Ready 0 io.now at made × Asks 66 ask }
-    ensures { Within 1 0 io.now at made result × Does 1 ask made nodes.old nodes.new io.now (λ K T f c. call_w K T f at c) result }
+fn call(lists: &Lists, nodes: &mut [u32], at: u32, made: u32, ask: u32) -> Step
+    requires { Ready 0 lists.now at made × Asks 66 ask }
+    ensures { Within 1 0 lists.now at made result × Does 1 ask made nodes.old nodes.new lists.now (λ K T f c. call_w K T f at c) result }
 {
-    let kind = peek(io, at);
+    let kind = peek(lists, at);
     if is_bare(kind) {
-        return bare(io, nodes, at, made, kind);
+        return bare(lists, nodes, at, made, kind);
     }
     let distinct: u32 = if kind == DISTINCT { 1 } else { 0 };
-    let r = list(io, nodes, at + distinct, made, ask);
+    let r = list(lists, nodes, at + distinct, made, ask);
     let Step::Got(_, n_c, c) = r else {
         return r;
     };
-    called(io, nodes, c.at, c.made, made, distinct, n_c as u32)
+    called(lists, nodes, c.at, c.made, made, distinct, n_c as u32)
 }
 
 // No argument, or STAR.
@@ -700,18 +697,18 @@ fn is_bare(kind: u32) -> bool
     }
 }
 
-fn bare(io: &[&[u32]; 3], nodes: &mut [u32], at: u32, made: u32, kind: u32) -> Step
-    requires { Ready 0 io.now at made × Seen io.now at kind }
-    ensures { Within 1 0 io.now at made result × Lays made nodes.old nodes.new io.now (λ K T. choose (eqb kind STAR) (called_w K T (at + 1) 2 0 []) (called_w K T at 0 0 [])) result }
+fn bare(lists: &Lists, nodes: &mut [u32], at: u32, made: u32, kind: u32) -> Step
+    requires { Ready 0 lists.now at made × Seen lists.now at kind }
+    ensures { Within 1 0 lists.now at made result × Lays made nodes.old nodes.new lists.now (λ K T. choose (eqb kind STAR) (called_w K T (at + 1) 2 0 []) (called_w K T at 0 0 [])) result }
 {
     if kind == STAR {
-        return called(io, nodes, at + 1, made, made, 2, 0);
+        return called(lists, nodes, at + 1, made, made, 2, 0);
     }
-    called(io, nodes, at, made, made, 0, 0)
+    called(lists, nodes, at, made, made, 0, 0)
 }
 
 fn called(
-    io: &[&[u32]; 3],
+    lists: &Lists,
     nodes: &mut [u32],
     at: u32,
     made: u32,
@@ -719,10 +716,10 @@ fn called(
     detail: u32,
     n: u32,
 ) -> Step
-    requires { Ready 0 io.now at made × (base ≤ made) }
-    ensures { Within 1 0 io.now at made result × ((N : List ℕ) (rs : List Rec) → Filled N nodes.old base made rs → Lays base N nodes.new io.now (λ K T. called_w K T at detail n rs) result) }
+    requires { Ready 0 lists.now at made × (base ≤ made) }
+    ensures { Within 1 0 lists.now at made result × ((N : List ℕ) (rs : List Rec) → Filled N nodes.old base made rs → Lays base N nodes.new lists.now (λ K T. called_w K T at detail n rs) result) }
 {
-    let kind = peek(io, at);
+    let kind = peek(lists, at);
     if kind != RP {
         return wrong(kind, at);
     }
@@ -733,66 +730,66 @@ fn called(
 
 // After LP: ( query ) or ( expressions ).
 #[cycle(walk)]
-fn paren(io: &[&[u32]; 3], nodes: &mut [u32], at: u32, made: u32, ask: u32) -> Step
-    requires { Ready 4 io.now at made × Asks 66 ask }
-    ensures { Within 1 4 io.now at made result × Does 1 ask made nodes.old nodes.new io.now (λ K T f c. paren_w K T f at c) result }
+fn paren(lists: &Lists, nodes: &mut [u32], at: u32, made: u32, ask: u32) -> Step
+    requires { Ready 4 lists.now at made × Asks 66 ask }
+    ensures { Within 1 4 lists.now at made result × Does 1 ask made nodes.old nodes.new lists.now (λ K T f c. paren_w K T f at c) result }
 {
-    let kind = peek(io, at);
+    let kind = peek(lists, at);
     match kind {
-        SELECT | VALUES => sub(io, nodes, at, made, 34, ask),
+        SELECT | VALUES => sub(lists, nodes, at, made, 34, ask),
         _ => {
-            let l = list(io, nodes, at, made, ask);
+            let l = list(lists, nodes, at, made, ask);
             let Step::Got(_, n_d, d) = l else {
                 return l;
             };
-            close(io, nodes, d.at, d.made, made, 33, n_d as u32)
+            close(lists, nodes, d.at, d.made, made, 33, n_d as u32)
         }
     }
 }
 
 #[cycle(walk)]
-fn sub(io: &[&[u32]; 3], nodes: &mut [u32], at: u32, made: u32, code: u32, ask: u32) -> Step
-    requires { Ready 4 io.now at made × Asks 66 ask }
-    ensures { Within 1 4 io.now at made result × Does 1 ask made nodes.old nodes.new io.now (λ K T f c. sub_w K T f at c code) result }
+fn sub(lists: &Lists, nodes: &mut [u32], at: u32, made: u32, code: u32, ask: u32) -> Step
+    requires { Ready 4 lists.now at made × Asks 66 ask }
+    ensures { Within 1 4 lists.now at made result × Does 1 ask made nodes.old nodes.new lists.now (λ K T f c. sub_w K T f at c code) result }
 {
-    let q = query(io, nodes, at, made, asking(ask, 0));
+    let q = query(lists, nodes, at, made, asking(ask, 0));
     let Step::Got(_, _, d) = q else {
         return q;
     };
-    close(io, nodes, d.at, d.made, made, code, 1)
+    close(lists, nodes, d.at, d.made, made, code, 1)
 }
 
 #[cycle(walk)]
-fn exists(io: &[&[u32]; 3], nodes: &mut [u32], at: u32, made: u32, ask: u32) -> Step
-    requires { Ready 0 io.now at made × Asks 66 ask }
-    ensures { Within 1 0 io.now at made result × Does 1 ask made nodes.old nodes.new io.now (λ K T f c. exists_w K T f at c) result }
+fn exists(lists: &Lists, nodes: &mut [u32], at: u32, made: u32, ask: u32) -> Step
+    requires { Ready 0 lists.now at made × Asks 66 ask }
+    ensures { Within 1 0 lists.now at made result × Does 1 ask made nodes.old nodes.new lists.now (λ K T f c. exists_w K T f at c) result }
 {
-    let kind = peek(io, at);
+    let kind = peek(lists, at);
     if kind != LP {
         return wrong(kind, at);
     }
-    sub(io, nodes, at + 1, made, 35, ask)
+    sub(lists, nodes, at + 1, made, 35, ask)
 }
 
 // After CASE.
 #[cycle(walk)]
-fn case(io: &[&[u32]; 3], nodes: &mut [u32], at: u32, made: u32, ask: u32) -> Step
-    requires { Ready 2 io.now at made × Asks 66 ask }
-    ensures { Within 1 2 io.now at made result × Does 1 ask made nodes.old nodes.new io.now (λ K T f c. case_w K T f at c) result }
+fn case(lists: &Lists, nodes: &mut [u32], at: u32, made: u32, ask: u32) -> Step
+    requires { Ready 2 lists.now at made × Asks 66 ask }
+    ensures { Within 1 2 lists.now at made result × Does 1 ask made nodes.old nodes.new lists.now (λ K T f c. case_w K T f at c) result }
 {
-    let b = cased(io, nodes, at, made, ask);
+    let b = cased(lists, nodes, at, made, ask);
     let Step::Got(_, _, c) = b else {
         return b;
     };
-    let w = when(io, nodes, c.at, c.made, ask);
+    let w = when(lists, nodes, c.at, c.made, ask);
     let Step::Got(_, n_d, d) = w else {
         return w;
     };
-    let e = clause(io, nodes, d.at, d.made, ELSE, ask);
+    let e = clause(lists, nodes, d.at, d.made, ELSE, ask);
     let Step::Got(_, _, f) = e else {
         return e;
     };
-    let end = peek(io, f.at);
+    let end = peek(lists, f.at);
     if end != END {
         return wrong(end, f.at);
     }
@@ -801,40 +798,40 @@ fn case(io: &[&[u32]; 3], nodes: &mut [u32], at: u32, made: u32, ask: u32) -> St
 }
 
 #[cycle(walk)]
-fn cased(io: &[&[u32]; 3], nodes: &mut [u32], at: u32, made: u32, ask: u32) -> Step
-    requires { Ready 1 io.now at made × Asks 66 ask }
-    ensures { Within 0 1 io.now at made result × Does 1 ask made nodes.old nodes.new io.now (λ K T f c. cased_w K T f at c) result }
+fn cased(lists: &Lists, nodes: &mut [u32], at: u32, made: u32, ask: u32) -> Step
+    requires { Ready 1 lists.now at made × Asks 66 ask }
+    ensures { Within 0 1 lists.now at made result × Does 1 ask made nodes.old nodes.new lists.now (λ K T f c. cased_w K T f at c) result }
 {
-    let kind = peek(io, at);
+    let kind = peek(lists, at);
     if kind == WHEN {
         let m = absent(nodes, made, 1);
         return got(at, m, 0);
     }
-    expr(io, nodes, at, made, ask)
+    expr(lists, nodes, at, made, ask)
 }
 
 // WHEN expression THEN expression, once or more: says how many expressions.
 #[cycle(walk)]
-fn when(io: &[&[u32]; 3], nodes: &mut [u32], from: u32, start: u32, ask: u32) -> Step
-    requires { Ready 0 io.now from start × Asks 66 ask }
-    ensures { Within 1 0 io.now from start result × Does 1 ask start nodes.old nodes.new io.now (λ K T f c. when_w K T f from c 0) result }
+fn when(lists: &Lists, nodes: &mut [u32], from: u32, start: u32, ask: u32) -> Step
+    requires { Ready 0 lists.now from start × Asks 66 ask }
+    ensures { Within 1 0 lists.now from start result × Does 1 ask start nodes.old nodes.new lists.now (λ K T f c. when_w K T f from c 0) result }
 {
     let mut at = from;
     let mut made = start;
     let mut n: u32 = 0;
     loop {
-        let w = after(io, nodes, at, made, WHEN, ask);
+        let w = after(lists, nodes, at, made, WHEN, ask);
         let Step::Got(_, _, c) = w else {
             return w;
         };
-        let t = after(io, nodes, c.at, c.made, THEN, ask);
+        let t = after(lists, nodes, c.at, c.made, THEN, ask);
         let Step::Got(_, _, d) = t else {
             return t;
         };
         at = d.at;
         made = d.made;
         n += 2;
-        let kind = peek(io, at);
+        let kind = peek(lists, at);
         if kind != WHEN {
             break;
         }
@@ -844,37 +841,37 @@ fn when(io: &[&[u32]; 3], nodes: &mut [u32], from: u32, start: u32, ask: u32) ->
 
 // After CAST.
 #[cycle(walk)]
-fn cast(io: &[&[u32]; 3], nodes: &mut [u32], at: u32, made: u32, ask: u32) -> Step
-    requires { Ready 0 io.now at made × Asks 66 ask }
-    ensures { Within 1 0 io.now at made result × Does 1 ask made nodes.old nodes.new io.now (λ K T f c. cast_w K T f at c) result }
+fn cast(lists: &Lists, nodes: &mut [u32], at: u32, made: u32, ask: u32) -> Step
+    requires { Ready 0 lists.now at made × Asks 66 ask }
+    ensures { Within 1 0 lists.now at made result × Does 1 ask made nodes.old nodes.new lists.now (λ K T f c. cast_w K T f at c) result }
 {
-    let e = after(io, nodes, at, made, LP, ask);
+    let e = after(lists, nodes, at, made, LP, ask);
     let Step::Got(_, _, c) = e else {
         return e;
     };
-    let kind = peek(io, c.at);
+    let kind = peek(lists, c.at);
     if kind != AS {
         return wrong(kind, c.at);
     }
-    let n = name(io, nodes, c.at + 1, c.made);
+    let n = name(lists, nodes, c.at + 1, c.made);
     let Step::Got(_, _, f) = n else {
         return n;
     };
-    close(io, nodes, f.at, f.made, made, 37, 2)
+    close(lists, nodes, f.at, f.made, made, 37, 2)
 }
 
 // ---- queries
 
 #[cycle(walk)]
-fn query(io: &[&[u32]; 3], nodes: &mut [u32], at: u32, made: u32, ask: u32) -> Step
-    requires { Ready 4 io.now at made × Asks 66 ask × (strength_asked ask ≡ 0) }
-    ensures { Within 1 4 io.now at made result × Does 0 ask made nodes.old nodes.new io.now (λ K T f c. query_w K T f at c) result }
+fn query(lists: &Lists, nodes: &mut [u32], at: u32, made: u32, ask: u32) -> Step
+    requires { Ready 4 lists.now at made × Asks 66 ask × (strength_asked ask ≡ 0) }
+    ensures { Within 1 4 lists.now at made result × Does 0 ask made nodes.old nodes.new lists.now (λ K T f c. query_w K T f at c) result }
 {
-    let b = body(io, nodes, at, made, ask);
+    let b = body(lists, nodes, at, made, ask);
     let Step::Got(_, _, c) = b else {
         return b;
     };
-    let t = tail(io, nodes, c.at, c.made, ask + QUERY + 1);
+    let t = tail(lists, nodes, c.at, c.made, ask + QUERY + 1);
     let Step::Got(_, _, d) = t else {
         return t;
     };
@@ -883,44 +880,44 @@ fn query(io: &[&[u32]; 3], nodes: &mut [u32], at: u32, made: u32, ask: u32) -> S
 }
 
 #[cycle(walk)]
-fn body(io: &[&[u32]; 3], nodes: &mut [u32], at: u32, made: u32, ask: u32) -> Step
-    requires { Ready 0 io.now at made × Asks 66 ask × (strength_asked ask ≡ 0) }
-    ensures { Within 1 0 io.now at made result × Opens ask result × Does 0 ask made nodes.old nodes.new io.now (λ K T f c. body_w K T f at c) result }
+fn body(lists: &Lists, nodes: &mut [u32], at: u32, made: u32, ask: u32) -> Step
+    requires { Ready 0 lists.now at made × Asks 66 ask × (strength_asked ask ≡ 0) }
+    ensures { Within 1 0 lists.now at made result × Opens ask result × Does 0 ask made nodes.old nodes.new lists.now (λ K T f c. body_w K T f at c) result }
 {
-    let kind = peek(io, at);
+    let kind = peek(lists, at);
     if kind == SELECT {
         if queries(ask) >= QUERIES {
             return Step::Refused(Reason::TooManyQueries, at as u16);
         }
-        return select(io, nodes, at + 1, made, ask + QUERY + 1);
+        return select(lists, nodes, at + 1, made, ask + QUERY + 1);
     }
     if kind == VALUES {
         if queries(ask) >= QUERIES {
             return Step::Refused(Reason::TooManyQueries, at as u16);
         }
-        return rows(io, nodes, at + 1, made, ask + QUERY + 1);
+        return rows(lists, nodes, at + 1, made, ask + QUERY + 1);
     }
     wrong(kind, at)
 }
 
 // ORDER BY and LIMIT.
 #[cycle(walk)]
-fn tail(io: &[&[u32]; 3], nodes: &mut [u32], at: u32, made: u32, ask: u32) -> Step
-    requires { Ready 3 io.now at made × Asks 66 ask }
-    ensures { Within 0 3 io.now at made result × Does 1 ask made nodes.old nodes.new io.now (λ K T f c. tail_w K T f at c) result }
+fn tail(lists: &Lists, nodes: &mut [u32], at: u32, made: u32, ask: u32) -> Step
+    requires { Ready 3 lists.now at made × Asks 66 ask }
+    ensures { Within 0 3 lists.now at made result × Does 1 ask made nodes.old nodes.new lists.now (λ K T f c. tail_w K T f at c) result }
 {
-    let kind = peek(io, at);
+    let kind = peek(lists, at);
     match kind {
         ORDER => {
-            let o = sort(io, nodes, at + 1, made, ask);
+            let o = sort(lists, nodes, at + 1, made, ask);
             let Step::Got(_, _, d) = o else {
                 return o;
             };
-            limit(io, nodes, d.at, d.made, ask)
+            limit(lists, nodes, d.at, d.made, ask)
         }
         LIMIT => {
             let m = absent(nodes, made, 1);
-            limit(io, nodes, at, m, ask)
+            limit(lists, nodes, at, m, ask)
         }
         _ => {
             let m = absent(nodes, made, 3);
@@ -931,16 +928,16 @@ fn tail(io: &[&[u32]; 3], nodes: &mut [u32], at: u32, made: u32, ask: u32) -> St
 
 // After VALUES: rows of one length.
 #[cycle(walk)]
-fn rows(io: &[&[u32]; 3], nodes: &mut [u32], from: u32, base: u32, ask: u32) -> Step
-    requires { Ready 1 io.now from base × Asks 66 ask }
-    ensures { Within 1 1 io.now from base result × Does 1 ask base nodes.old nodes.new io.now (λ K T f c. all_rows_w K T f from c) result }
+fn rows(lists: &Lists, nodes: &mut [u32], from: u32, base: u32, ask: u32) -> Step
+    requires { Ready 1 lists.now from base × Asks 66 ask }
+    ensures { Within 1 1 lists.now from base result × Does 1 ask base nodes.old nodes.new lists.now (λ K T f c. all_rows_w K T f from c) result }
 {
     let mut at = from;
     let mut made = base;
     let mut rows: u32 = 0;
     let mut width: u32 = 0;
     loop {
-        let r = row(io, nodes, at, made, width, ask);
+        let r = row(lists, nodes, at, made, width, ask);
         let Step::Got(_, n_d, d) = r else {
             return r;
         };
@@ -948,7 +945,7 @@ fn rows(io: &[&[u32]; 3], nodes: &mut [u32], from: u32, base: u32, ask: u32) -> 
         rows += 1;
         at = d.at;
         made = d.made;
-        let kind = peek(io, at);
+        let kind = peek(lists, at);
         if kind != COMMA {
             break;
         }
@@ -960,19 +957,19 @@ fn rows(io: &[&[u32]; 3], nodes: &mut [u32], from: u32, base: u32, ask: u32) -> 
 
 // ( expressions ), as many as `width` unless that is 0: says how many.
 #[cycle(walk)]
-fn row(io: &[&[u32]; 3], nodes: &mut [u32], at: u32, made: u32, width: u32, ask: u32) -> Step
-    requires { Ready 0 io.now at made × Asks 66 ask }
-    ensures { Within 1 0 io.now at made result × Does 1 ask made nodes.old nodes.new io.now (λ K T f c. row_w K T f at c width) result }
+fn row(lists: &Lists, nodes: &mut [u32], at: u32, made: u32, width: u32, ask: u32) -> Step
+    requires { Ready 0 lists.now at made × Asks 66 ask }
+    ensures { Within 1 0 lists.now at made result × Does 1 ask made nodes.old nodes.new lists.now (λ K T f c. row_w K T f at c width) result }
 {
-    let lp = peek(io, at);
+    let lp = peek(lists, at);
     if lp != LP {
         return wrong(lp, at);
     }
-    let r = list(io, nodes, at + 1, made, ask);
+    let r = list(lists, nodes, at + 1, made, ask);
     let Step::Got(_, n_d, d) = r else {
         return r;
     };
-    let rp = peek(io, d.at);
+    let rp = peek(lists, d.at);
     if rp != RP {
         return wrong(rp, d.at);
     }
@@ -988,23 +985,23 @@ fn row(io: &[&[u32]; 3], nodes: &mut [u32], at: u32, made: u32, width: u32, ask:
 
 // After SELECT.
 #[cycle(walk)]
-fn select(io: &[&[u32]; 3], nodes: &mut [u32], at: u32, made: u32, ask: u32) -> Step
-    requires { Ready 8 io.now at made × Asks 66 ask }
-    ensures { Within 1 8 io.now at made result × Does 1 ask made nodes.old nodes.new io.now (λ K T f c. select_w K T f at c) result }
+fn select(lists: &Lists, nodes: &mut [u32], at: u32, made: u32, ask: u32) -> Step
+    requires { Ready 8 lists.now at made × Asks 66 ask }
+    ensures { Within 1 8 lists.now at made result × Does 1 ask made nodes.old nodes.new lists.now (λ K T f c. select_w K T f at c) result }
 {
-    let kind = peek(io, at);
+    let kind = peek(lists, at);
     let detail: u32 = match kind {
         DISTINCT => 1,
         ALL => 2,
         _ => 0,
     };
     let word: u32 = if detail > 0 { 1 } else { 0 };
-    let l = cols(io, nodes, at + word, made, ask);
+    let l = cols(lists, nodes, at + word, made, ask);
     let Step::Got(_, n_c, c) = l else {
         return l;
     };
     let listed = emit(nodes, c.made, 4, 0, n_c as u32, c.made - made + 1);
-    let f = parts(io, nodes, c.at, listed, ask);
+    let f = parts(lists, nodes, c.at, listed, ask);
     let Step::Got(_, _, d) = f else {
         return f;
     };
@@ -1014,22 +1011,22 @@ fn select(io: &[&[u32]; 3], nodes: &mut [u32], at: u32, made: u32, ask: u32) -> 
 
 // FROM, WHERE, GROUP BY, HAVING.
 #[cycle(walk)]
-fn parts(io: &[&[u32]; 3], nodes: &mut [u32], at: u32, made: u32, ask: u32) -> Step
-    requires { Ready 4 io.now at made × Asks 66 ask }
-    ensures { Within 0 4 io.now at made result × Does 1 ask made nodes.old nodes.new io.now (λ K T f c. parts_w K T f at c) result }
+fn parts(lists: &Lists, nodes: &mut [u32], at: u32, made: u32, ask: u32) -> Step
+    requires { Ready 4 lists.now at made × Asks 66 ask }
+    ensures { Within 0 4 lists.now at made result × Does 1 ask made nodes.old nodes.new lists.now (λ K T f c. parts_w K T f at c) result }
 {
-    let kind = peek(io, at);
+    let kind = peek(lists, at);
     match kind {
         FROM | WHERE | GROUP | HAVING => {
-            let f = from(io, nodes, at, made, kind, ask);
+            let f = from(lists, nodes, at, made, kind, ask);
             let Step::Got(_, _, d) = f else {
                 return f;
             };
-            let w = clause(io, nodes, d.at, d.made, WHERE, ask);
+            let w = clause(lists, nodes, d.at, d.made, WHERE, ask);
             let Step::Got(_, _, e) = w else {
                 return w;
             };
-            group(io, nodes, e.at, e.made, ask)
+            group(lists, nodes, e.at, e.made, ask)
         }
         _ => {
             let m = absent(nodes, made, 4);
@@ -1040,13 +1037,13 @@ fn parts(io: &[&[u32]; 3], nodes: &mut [u32], at: u32, made: u32, ask: u32) -> S
 
 // An optional clause of a word and an expression.
 #[cycle(walk)]
-fn clause(io: &[&[u32]; 3], nodes: &mut [u32], at: u32, made: u32, word: u32, ask: u32) -> Step
-    requires { Ready 1 io.now at made × Asks 66 ask × (0 < word) }
-    ensures { Within 0 1 io.now at made result × Does 1 ask made nodes.old nodes.new io.now (λ K T f c. clause_w K T f at word c) result }
+fn clause(lists: &Lists, nodes: &mut [u32], at: u32, made: u32, word: u32, ask: u32) -> Step
+    requires { Ready 1 lists.now at made × Asks 66 ask × (0 < word) }
+    ensures { Within 0 1 lists.now at made result × Does 1 ask made nodes.old nodes.new lists.now (λ K T f c. clause_w K T f at word c) result }
 {
-    let kind = peek(io, at);
+    let kind = peek(lists, at);
     if kind == word {
-        return expr(io, nodes, at + 1, made, ask);
+        return expr(lists, nodes, at + 1, made, ask);
     }
     let m = absent(nodes, made, 1);
     got(at, m, 0)
@@ -1054,27 +1051,27 @@ fn clause(io: &[&[u32]; 3], nodes: &mut [u32], at: u32, made: u32, word: u32, as
 
 // GROUP BY and HAVING.
 #[cycle(walk)]
-fn group(io: &[&[u32]; 3], nodes: &mut [u32], at: u32, made: u32, ask: u32) -> Step
-    requires { Ready 2 io.now at made × Asks 66 ask }
-    ensures { Within 0 2 io.now at made result × Does 1 ask made nodes.old nodes.new io.now (λ K T f c. group_w K T f at c) result }
+fn group(lists: &Lists, nodes: &mut [u32], at: u32, made: u32, ask: u32) -> Step
+    requires { Ready 2 lists.now at made × Asks 66 ask }
+    ensures { Within 0 2 lists.now at made result × Does 1 ask made nodes.old nodes.new lists.now (λ K T f c. group_w K T f at c) result }
 {
-    let kind = peek(io, at);
+    let kind = peek(lists, at);
     match kind {
         GROUP => {
-            let by = peek(io, at + 1);
+            let by = peek(lists, at + 1);
             if by != BY {
                 return wrong(by, at + 1);
             }
-            let r = list(io, nodes, at + 2, made, ask);
+            let r = list(lists, nodes, at + 2, made, ask);
             let Step::Got(_, n_d, d) = r else {
                 return r;
             };
             let m = emit(nodes, d.made, 4, 0, n_d as u32, d.made - made + 1);
-            clause(io, nodes, d.at, m, HAVING, ask)
+            clause(lists, nodes, d.at, m, HAVING, ask)
         }
         HAVING => {
             let m = emit(nodes, made, 4, 0, 0, 1);
-            expr(io, nodes, at + 1, m, ask)
+            expr(lists, nodes, at + 1, m, ask)
         }
         _ => {
             let m = absent(nodes, made, 2);
@@ -1085,22 +1082,22 @@ fn group(io: &[&[u32]; 3], nodes: &mut [u32], at: u32, made: u32, ask: u32) -> S
 
 // Says how many.
 #[cycle(walk)]
-fn cols(io: &[&[u32]; 3], nodes: &mut [u32], from: u32, base: u32, ask: u32) -> Step
-    requires { Ready 2 io.now from base × Asks 66 ask }
-    ensures { Within 1 2 io.now from base result × Does 1 ask base nodes.old nodes.new io.now (λ K T f c. cols_w K T f from c 0) result }
+fn cols(lists: &Lists, nodes: &mut [u32], from: u32, base: u32, ask: u32) -> Step
+    requires { Ready 2 lists.now from base × Asks 66 ask }
+    ensures { Within 1 2 lists.now from base result × Does 1 ask base nodes.old nodes.new lists.now (λ K T f c. cols_w K T f from c 0) result }
 {
     let mut at = from;
     let mut made = base;
     let mut n: u32 = 0;
     loop {
-        let r = col(io, nodes, at, made, ask);
+        let r = col(lists, nodes, at, made, ask);
         let Step::Got(_, _, d) = r else {
             return r;
         };
         made = d.made;
         at = d.at;
         n += 1;
-        let kind = peek(io, at);
+        let kind = peek(lists, at);
         if kind != COMMA {
             break;
         }
@@ -1110,23 +1107,23 @@ fn cols(io: &[&[u32]; 3], nodes: &mut [u32], from: u32, base: u32, ask: u32) -> 
 }
 
 #[cycle(walk)]
-fn col(io: &[&[u32]; 3], nodes: &mut [u32], at: u32, made: u32, ask: u32) -> Step
-    requires { Ready 2 io.now at made × Asks 66 ask }
-    ensures { Within 1 2 io.now at made result × Does 1 ask made nodes.old nodes.new io.now (λ K T f c. col_w K T f at c) result }
+fn col(lists: &Lists, nodes: &mut [u32], at: u32, made: u32, ask: u32) -> Step
+    requires { Ready 2 lists.now at made × Asks 66 ask }
+    ensures { Within 1 2 lists.now at made result × Does 1 ask made nodes.old nodes.new lists.now (λ K T f c. col_w K T f at c) result }
 {
-    let kind = peek(io, at);
+    let kind = peek(lists, at);
     if kind == STAR {
         let m = emit(nodes, made, 5, 0, 0, 1);
         return got(at + 1, m, 0);
     }
-    let r = expr(io, nodes, at, made, asking(ask, COLUMN));
+    let r = expr(lists, nodes, at, made, asking(ask, COLUMN));
     let Step::Got(s_d, _, d) = r else {
         return r;
     };
     if s_d == 0 {
         return r;
     }
-    let a = alias(io, nodes, d.at, d.made);
+    let a = alias(lists, nodes, d.at, d.made);
     let Step::Got(s_e, _, e) = a else {
         return a;
     };
@@ -1135,13 +1132,13 @@ fn col(io: &[&[u32]; 3], nodes: &mut [u32], at: u32, made: u32, ask: u32) -> Ste
 }
 
 // Says the mode: 0 none, 1 AS, 2 bare.
-fn alias(io: &[&[u32]; 3], nodes: &mut [u32], at: u32, made: u32) -> Step
-    requires { Ready 1 io.now at made }
-    ensures { Within 0 1 io.now at made result × Lays made nodes.old nodes.new io.now (λ K T. alias_w K T at) result }
+fn alias(lists: &Lists, nodes: &mut [u32], at: u32, made: u32) -> Step
+    requires { Ready 1 lists.now at made }
+    ensures { Within 0 1 lists.now at made result × Lays made nodes.old nodes.new lists.now (λ K T. alias_w K T at) result }
 {
-    let kind = peek(io, at);
+    let kind = peek(lists, at);
     match kind {
-        AS | ID | KWID | STRING => renamed(io, nodes, at, made, kind),
+        AS | ID | KWID | STRING => renamed(lists, nodes, at, made, kind),
         _ => {
             let m = absent(nodes, made, 1);
             got(at, m, 0)
@@ -1149,35 +1146,35 @@ fn alias(io: &[&[u32]; 3], nodes: &mut [u32], at: u32, made: u32) -> Step
     }
 }
 
-fn renamed(io: &[&[u32]; 3], nodes: &mut [u32], at: u32, made: u32, kind: u32) -> Step
-    requires { Ready 0 io.now at made × (at < tokens io.now) }
-    ensures { Within 1 0 io.now at made result × (Seen io.now at kind → Lays made nodes.old nodes.new io.now (λ K T. choose (eqb kind AS) (bind (name_w K T (at + 1)) (λ a s n rs. done a 1 0 rs)) (done (at + 1) 2 0 (name_rec K T at ∷ []))) result) }
+fn renamed(lists: &Lists, nodes: &mut [u32], at: u32, made: u32, kind: u32) -> Step
+    requires { Ready 0 lists.now at made × (at < tokens lists.now) }
+    ensures { Within 1 0 lists.now at made result × (Seen lists.now at kind → Lays made nodes.old nodes.new lists.now (λ K T. choose (eqb kind AS) (bind (name_w K T (at + 1)) (λ a s n rs. done a 1 0 rs)) (done (at + 1) 2 0 (name_rec K T at ∷ []))) result) }
 {
     if kind == AS {
-        let r = name(io, nodes, at + 1, made);
+        let r = name(lists, nodes, at + 1, made);
         let Step::Got(_, _, d) = r else {
             return r;
         };
         return got(d.at, d.made, 1);
     }
-    let m = named(io, nodes, at, made, kind);
+    let m = named(lists, nodes, at, made, kind);
     got(at + 1, m, 2)
 }
 
 #[cycle(walk)]
-fn from(io: &[&[u32]; 3], nodes: &mut [u32], at: u32, made: u32, kind: u32, ask: u32) -> Step
-    requires { Ready 1 io.now at made × Asks 66 ask × Seen io.now at kind }
-    ensures { Within 0 1 io.now at made result × Does 1 ask made nodes.old nodes.new io.now (λ K T f c. from_w K T f at c) result }
+fn from(lists: &Lists, nodes: &mut [u32], at: u32, made: u32, kind: u32, ask: u32) -> Step
+    requires { Ready 1 lists.now at made × Asks 66 ask × Seen lists.now at kind }
+    ensures { Within 0 1 lists.now at made result × Does 1 ask made nodes.old nodes.new lists.now (λ K T f c. from_w K T f at c) result }
 {
     if kind != FROM {
         let m = absent(nodes, made, 1);
         return got(at, m, 0);
     }
-    let s = source(io, nodes, at + 1, made, ask);
+    let s = source(lists, nodes, at + 1, made, ask);
     let Step::Got(_, _, c) = s else {
         return s;
     };
-    let j = joins(io, nodes, c.at, c.made, ask);
+    let j = joins(lists, nodes, c.at, c.made, ask);
     let Step::Got(_, n_d, d) = j else {
         return j;
     };
@@ -1187,27 +1184,27 @@ fn from(io: &[&[u32]; 3], nodes: &mut [u32], at: u32, made: u32, kind: u32, ask:
 
 // Says how many.
 #[cycle(walk)]
-fn joins(io: &[&[u32]; 3], nodes: &mut [u32], from: u32, start: u32, ask: u32) -> Step
-    requires { Ready 0 io.now from start × Asks 66 ask }
-    ensures { Within 0 0 io.now from start result × Does 1 ask start nodes.old nodes.new io.now (λ K T f c. joins_w K T f from c 0) result }
+fn joins(lists: &Lists, nodes: &mut [u32], from: u32, start: u32, ask: u32) -> Step
+    requires { Ready 0 lists.now from start × Asks 66 ask }
+    ensures { Within 0 0 lists.now from start result × Does 1 ask start nodes.old nodes.new lists.now (λ K T f c. joins_w K T f from c 0) result }
 {
     let mut at = from;
     let mut made = start;
     let mut n: u32 = 0;
     loop {
-        let kind = peek(io, at);
+        let kind = peek(lists, at);
         if !begins_join(kind) {
             break;
         }
-        let j = joined(io, at, kind);
+        let j = joined(lists, at, kind);
         let Step::Got(s_c, _, c) = j else {
             return j;
         };
-        let s = source(io, nodes, c.at, made, ask);
+        let s = source(lists, nodes, c.at, made, ask);
         let Step::Got(_, _, d) = s else {
             return s;
         };
-        let o = on(io, nodes, d.at, d.made, ask);
+        let o = on(lists, nodes, d.at, d.made, ask);
         let Step::Got(_, _, e) = o else {
             return o;
         };
@@ -1228,9 +1225,9 @@ fn begins_join(kind: u32) -> bool
 }
 
 // COMMA, or up to three join words and JOIN: says the join's detail.
-fn joined(io: &[&[u32]; 3], from: u32, first: u32) -> Step
-    requires { Ready 0 io.now from 0 × Seen io.now from first }
-    ensures { Within 1 0 io.now from 0 result × Lays 0 [] [] io.now (λ K T. joined_w K T from) result }
+fn joined(lists: &Lists, from: u32, first: u32) -> Step
+    requires { Ready 0 lists.now from 0 × Seen lists.now from first }
+    ensures { Within 1 0 lists.now from 0 result × Lays 0 [] [] lists.now (λ K T. joined_w K T from) result }
 {
     if first == COMMA {
         return got(from + 1, 0, 0);
@@ -1239,7 +1236,7 @@ fn joined(io: &[&[u32]; 3], from: u32, first: u32) -> Step
     let mut flags: u32 = 0;
     let mut words: u32 = 0;
     loop {
-        let kind = peek(io, at);
+        let kind = peek(lists, at);
         if kind == JOIN {
             break;
         }
@@ -1249,7 +1246,7 @@ fn joined(io: &[&[u32]; 3], from: u32, first: u32) -> Step
         if words == 3 {
             return wrong(kind, at);
         }
-        flags = words::united(flags, words::flags(text(io, at)));
+        flags = words::united(flags, words::flags(text(lists, at)));
         words += 1;
         at += 1;
     }
@@ -1261,21 +1258,21 @@ fn joined(io: &[&[u32]; 3], from: u32, first: u32) -> Step
 
 // ON or USING, or nothing.
 #[cycle(walk)]
-fn on(io: &[&[u32]; 3], nodes: &mut [u32], at: u32, made: u32, ask: u32) -> Step
-    requires { Ready 1 io.now at made × Asks 66 ask }
-    ensures { Within 0 1 io.now at made result × Does 1 ask made nodes.old nodes.new io.now (λ K T f c. on_w K T f at c) result }
+fn on(lists: &Lists, nodes: &mut [u32], at: u32, made: u32, ask: u32) -> Step
+    requires { Ready 1 lists.now at made × Asks 66 ask }
+    ensures { Within 0 1 lists.now at made result × Does 1 ask made nodes.old nodes.new lists.now (λ K T f c. on_w K T f at c) result }
 {
-    let kind = peek(io, at);
+    let kind = peek(lists, at);
     match kind {
         ON => {
-            let r = expr(io, nodes, at + 1, made, ask);
+            let r = expr(lists, nodes, at + 1, made, ask);
             let Step::Got(_, _, d) = r else {
                 return r;
             };
             let m = emit(nodes, d.made, 10, 0, 1, d.made - made + 1);
             got(d.at, m, 0)
         }
-        USING => using(io, nodes, at + 1, made),
+        USING => using(lists, nodes, at + 1, made),
         _ => {
             let m = absent(nodes, made, 1);
             got(at, m, 0)
@@ -1284,11 +1281,11 @@ fn on(io: &[&[u32]; 3], nodes: &mut [u32], at: u32, made: u32, ask: u32) -> Step
 }
 
 // After USING.
-fn using(io: &[&[u32]; 3], nodes: &mut [u32], from: u32, base: u32) -> Step
-    requires { Ready 0 io.now from base }
-    ensures { Within 1 0 io.now from base result × Later (λ f. Lays base nodes.old nodes.new io.now (λ K T. using_w K T f from) result) }
+fn using(lists: &Lists, nodes: &mut [u32], from: u32, base: u32) -> Step
+    requires { Ready 0 lists.now from base }
+    ensures { Within 1 0 lists.now from base result × Later (λ f. Lays base nodes.old nodes.new lists.now (λ K T. using_w K T f from) result) }
 {
-    let lp = peek(io, from);
+    let lp = peek(lists, from);
     if lp != LP {
         return wrong(lp, from);
     }
@@ -1296,58 +1293,58 @@ fn using(io: &[&[u32]; 3], nodes: &mut [u32], from: u32, base: u32) -> Step
     let mut made = base;
     let mut n: u32 = 0;
     loop {
-        let r = name(io, nodes, at, made);
+        let r = name(lists, nodes, at, made);
         let Step::Got(_, _, d) = r else {
             return r;
         };
         made = d.made;
         at = d.at;
         n += 1;
-        let kind = peek(io, at);
+        let kind = peek(lists, at);
         if kind != COMMA {
             break;
         }
         at += 1;
     }
-    close(io, nodes, at, made, base, 11, n)
+    close(lists, nodes, at, made, base, 11, n)
 }
 
 // As `expr`.
 #[cycle(walk)]
-fn source(io: &[&[u32]; 3], nodes: &mut [u32], at: u32, made: u32, ask: u32) -> Step
-    requires { Ready 4 io.now at made × Asks 66 ask }
-    ensures { Within 1 4 io.now at made result × Does 1 ask made nodes.old nodes.new io.now (λ K T f c. source_w K T f at c) result }
+fn source(lists: &Lists, nodes: &mut [u32], at: u32, made: u32, ask: u32) -> Step
+    requires { Ready 4 lists.now at made × Asks 66 ask }
+    ensures { Within 1 4 lists.now at made result × Does 1 ask made nodes.old nodes.new lists.now (λ K T f c. source_w K T f at c) result }
 {
-    src(io, nodes, at, made, ask)
+    src(lists, nodes, at, made, ask)
 }
 
 // A table, or a query in brackets.
 #[cycle(walk)]
-fn src(io: &[&[u32]; 3], nodes: &mut [u32], at: u32, made: u32, ask: u32) -> Step
-    requires { Ready 4 io.now at made × Asks 66 ask }
-    ensures { Within 1 4 io.now at made result × Does 1 ask made nodes.old nodes.new io.now (λ K T f c. source_w K T f at c) result }
+fn src(lists: &Lists, nodes: &mut [u32], at: u32, made: u32, ask: u32) -> Step
+    requires { Ready 4 lists.now at made × Asks 66 ask }
+    ensures { Within 1 4 lists.now at made result × Does 1 ask made nodes.old nodes.new lists.now (λ K T f c. source_w K T f at c) result }
 {
-    let kind = peek(io, at);
+    let kind = peek(lists, at);
     if kind != LP {
-        return table(io, nodes, at, made);
+        return table(lists, nodes, at, made);
     }
-    let q = query(io, nodes, at + 1, made, asking(ask, 0));
+    let q = query(lists, nodes, at + 1, made, asking(ask, 0));
     let Step::Got(_, _, c) = q else {
         return q;
     };
-    lent(io, nodes, c.at, c.made, made)
+    lent(lists, nodes, c.at, c.made, made)
 }
 
 // RP and an optional alias after a query in FROM.
-fn lent(io: &[&[u32]; 3], nodes: &mut [u32], at: u32, made: u32, base: u32) -> Step
-    requires { Ready 0 io.now at made × (base ≤ made) }
-    ensures { Within 1 0 io.now at made result × ((N : List ℕ) (rs : List Rec) → Filled N nodes.old base made rs → Lays base N nodes.new io.now (λ K T. lent_w K T at rs) result) }
+fn lent(lists: &Lists, nodes: &mut [u32], at: u32, made: u32, base: u32) -> Step
+    requires { Ready 0 lists.now at made × (base ≤ made) }
+    ensures { Within 1 0 lists.now at made result × ((N : List ℕ) (rs : List Rec) → Filled N nodes.old base made rs → Lays base N nodes.new lists.now (λ K T. lent_w K T at rs) result) }
 {
-    let rp = peek(io, at);
+    let rp = peek(lists, at);
     if rp != RP {
         return wrong(rp, at);
     }
-    let a = alias(io, nodes, at + 1, made);
+    let a = alias(lists, nodes, at + 1, made);
     let Step::Got(s_e, _, e) = a else {
         return a;
     };
@@ -1355,19 +1352,19 @@ fn lent(io: &[&[u32]; 3], nodes: &mut [u32], at: u32, made: u32, base: u32) -> S
     got(e.at, m, 0)
 }
 
-fn table(io: &[&[u32]; 3], nodes: &mut [u32], at: u32, made: u32) -> Step
-    requires { Ready 4 io.now at made }
-    ensures { Within 1 4 io.now at made result × Lays made nodes.old nodes.new io.now (λ K T. table_w K T at) result }
+fn table(lists: &Lists, nodes: &mut [u32], at: u32, made: u32) -> Step
+    requires { Ready 4 lists.now at made }
+    ensures { Within 1 4 lists.now at made result × Lays made nodes.old nodes.new lists.now (λ K T. table_w K T at) result }
 {
-    let t = qualified(io, nodes, at, made);
+    let t = qualified(lists, nodes, at, made);
     let Step::Got(_, _, c) = t else {
         return t;
     };
-    let a = alias(io, nodes, c.at, c.made);
+    let a = alias(lists, nodes, c.at, c.made);
     let Step::Got(s_d, _, d) = a else {
         return a;
     };
-    let x = index(io, nodes, d.at, d.made);
+    let x = index(lists, nodes, d.at, d.made);
     let Step::Got(s_e, _, e) = x else {
         return x;
     };
@@ -1383,41 +1380,41 @@ fn table(io: &[&[u32]; 3], nodes: &mut [u32], at: u32, made: u32) -> Step
 }
 
 // [ schema DOT ] name
-fn qualified(io: &[&[u32]; 3], nodes: &mut [u32], at: u32, made: u32) -> Step
-    requires { Ready 1 io.now at made }
-    ensures { Within 1 1 io.now at made result × Lays made nodes.old nodes.new io.now (λ K T. qualified_w K T at) result }
+fn qualified(lists: &Lists, nodes: &mut [u32], at: u32, made: u32) -> Step
+    requires { Ready 1 lists.now at made }
+    ensures { Within 1 1 lists.now at made result × Lays made nodes.old nodes.new lists.now (λ K T. qualified_w K T at) result }
 {
-    if peek(io, at + 1) == DOT {
-        let r = name(io, nodes, at, made);
+    if peek(lists, at + 1) == DOT {
+        let r = name(lists, nodes, at, made);
         let Step::Got(_, _, d) = r else {
             return r;
         };
-        return name(io, nodes, d.at + 1, d.made);
+        return name(lists, nodes, d.at + 1, d.made);
     }
     let m = absent(nodes, made, 1);
-    name(io, nodes, at, m)
+    name(lists, nodes, at, m)
 }
 
 // INDEXED BY name, NOT INDEXED or nothing: says 1, 2 or 0.
-fn index(io: &[&[u32]; 3], nodes: &mut [u32], at: u32, made: u32) -> Step
-    requires { Ready 1 io.now at made }
-    ensures { Within 0 1 io.now at made result × Lays made nodes.old nodes.new io.now (λ K T. index_w K T at) result }
+fn index(lists: &Lists, nodes: &mut [u32], at: u32, made: u32) -> Step
+    requires { Ready 1 lists.now at made }
+    ensures { Within 0 1 lists.now at made result × Lays made nodes.old nodes.new lists.now (λ K T. index_w K T at) result }
 {
-    let kind = peek(io, at);
+    let kind = peek(lists, at);
     match kind {
         INDEXED => {
-            let by = peek(io, at + 1);
+            let by = peek(lists, at + 1);
             if by != BY {
                 return wrong(by, at + 1);
             }
-            let r = name(io, nodes, at + 2, made);
+            let r = name(lists, nodes, at + 2, made);
             let Step::Got(_, _, d) = r else {
                 return r;
             };
             got(d.at, d.made, 1)
         }
         NOT => {
-            let x = peek(io, at + 1);
+            let x = peek(lists, at + 1);
             if x != INDEXED {
                 return wrong(x, at + 1);
             }
@@ -1433,11 +1430,11 @@ fn index(io: &[&[u32]; 3], nodes: &mut [u32], at: u32, made: u32) -> Step
 
 // After ORDER.
 #[cycle(walk)]
-fn sort(io: &[&[u32]; 3], nodes: &mut [u32], from: u32, base: u32, ask: u32) -> Step
-    requires { Ready 0 io.now from base × Asks 66 ask }
-    ensures { Within 1 0 io.now from base result × Does 1 ask base nodes.old nodes.new io.now (λ K T f c. sort_w K T f from c) result }
+fn sort(lists: &Lists, nodes: &mut [u32], from: u32, base: u32, ask: u32) -> Step
+    requires { Ready 0 lists.now from base × Asks 66 ask }
+    ensures { Within 1 0 lists.now from base result × Does 1 ask base nodes.old nodes.new lists.now (λ K T f c. sort_w K T f from c) result }
 {
-    let by = peek(io, from);
+    let by = peek(lists, from);
     if by != BY {
         return wrong(by, from);
     }
@@ -1445,18 +1442,18 @@ fn sort(io: &[&[u32]; 3], nodes: &mut [u32], from: u32, base: u32, ask: u32) -> 
     let mut made = base;
     let mut n: u32 = 0;
     loop {
-        let r = expr(io, nodes, at, made, ask);
+        let r = expr(lists, nodes, at, made, ask);
         let Step::Got(_, _, d) = r else {
             return r;
         };
-        let w = way(io, d.at);
+        let w = way(lists, d.at);
         let Step::Got(s_e, _, e) = w else {
             return w;
         };
         made = emit(nodes, d.made, 14, s_e as u32, 1, d.made - made + 1);
         at = e.at;
         n += 1;
-        let kind = peek(io, at);
+        let kind = peek(lists, at);
         if kind != COMMA {
             break;
         }
@@ -1467,27 +1464,27 @@ fn sort(io: &[&[u32]; 3], nodes: &mut [u32], from: u32, base: u32, ask: u32) -> 
 }
 
 // [ ASC or DESC ] [ NULLS FIRST or LAST ]: says the term's detail.
-fn way(io: &[&[u32]; 3], at: u32) -> Step
-    requires { Ready 0 io.now at 0 }
-    ensures { Within 0 0 io.now at 0 result × Lays 0 [] [] io.now (λ K T. way_w K T at) result }
+fn way(lists: &Lists, at: u32) -> Step
+    requires { Ready 0 lists.now at 0 }
+    ensures { Within 0 0 lists.now at 0 result × Lays 0 [] [] lists.now (λ K T. way_w K T at) result }
 {
-    let kind = peek(io, at);
+    let kind = peek(lists, at);
     match kind {
-        ASC => nulls(io, at + 1, 1),
-        DESC => nulls(io, at + 1, 2),
-        _ => nulls(io, at, 0),
+        ASC => nulls(lists, at + 1, 1),
+        DESC => nulls(lists, at + 1, 2),
+        _ => nulls(lists, at, 0),
     }
 }
 
-fn nulls(io: &[&[u32]; 3], at: u32, detail: u8) -> Step
-    requires { Ready 0 io.now at 0 × (detail ≤ 2) }
-    ensures { Within 0 0 io.now at 0 result × Lays 0 [] [] io.now (λ K T. nulls_w K T at detail) result }
+fn nulls(lists: &Lists, at: u32, detail: u8) -> Step
+    requires { Ready 0 lists.now at 0 × (detail ≤ 2) }
+    ensures { Within 0 0 lists.now at 0 result × Lays 0 [] [] lists.now (λ K T. nulls_w K T at detail) result }
 {
-    let kind = peek(io, at);
+    let kind = peek(lists, at);
     if kind != NULLS {
         return got(at, 0, detail);
     }
-    let next = peek(io, at + 1);
+    let next = peek(lists, at + 1);
     match next {
         FIRST => got(at + 2, 0, detail + 4),
         LAST => got(at + 2, 0, detail + 8),
@@ -1496,24 +1493,24 @@ fn nulls(io: &[&[u32]; 3], at: u32, detail: u8) -> Step
 }
 
 #[cycle(walk)]
-fn limit(io: &[&[u32]; 3], nodes: &mut [u32], at: u32, made: u32, ask: u32) -> Step
-    requires { Ready 2 io.now at made × Asks 66 ask }
-    ensures { Within 0 2 io.now at made result × Does 1 ask made nodes.old nodes.new io.now (λ K T f c. limit_w K T f at c) result }
+fn limit(lists: &Lists, nodes: &mut [u32], at: u32, made: u32, ask: u32) -> Step
+    requires { Ready 2 lists.now at made × Asks 66 ask }
+    ensures { Within 0 2 lists.now at made result × Does 1 ask made nodes.old nodes.new lists.now (λ K T f c. limit_w K T f at c) result }
 {
-    let kind = peek(io, at);
+    let kind = peek(lists, at);
     if kind != LIMIT {
         let m = absent(nodes, made, 2);
         return got(at, m, 0);
     }
-    let a = expr(io, nodes, at + 1, made, ask);
+    let a = expr(lists, nodes, at + 1, made, ask);
     let Step::Got(_, _, c) = a else {
         return a;
     };
-    let next = peek(io, c.at);
+    let next = peek(lists, c.at);
     match next {
-        OFFSET => expr(io, nodes, c.at + 1, c.made, ask),
+        OFFSET => expr(lists, nodes, c.at + 1, c.made, ask),
         COMMA => {
-            let b = expr(io, nodes, c.at + 1, c.made, ask);
+            let b = expr(lists, nodes, c.at + 1, c.made, ask);
             let Step::Got(_, _, d) = b else {
                 return b;
             };
@@ -1608,22 +1605,22 @@ fn unfit(kinds: &[u32], texts: &[u32]) -> usize
 }
 
 // A query, then the end of the list or one SEMI and the end.
-fn command(io: &[&[u32]; 3], nodes: &mut [u32]) -> Step
-    requires { Ready 4 io.now 0 0 }
-    ensures { Within 1 4 io.now 0 0 result × Later (λ f. Lays 0 nodes.old nodes.new io.now (λ K T. command_w K T f) result) }
+fn command(lists: &Lists, nodes: &mut [u32]) -> Step
+    requires { Ready 4 lists.now 0 0 }
+    ensures { Within 1 4 lists.now 0 0 result × Later (λ f. Lays 0 nodes.old nodes.new lists.now (λ K T. command_w K T f) result) }
 {
-    let q = query(io, nodes, 0, 0, OUTER);
+    let q = query(lists, nodes, 0, 0, OUTER);
     let Step::Got(_, _, c) = q else {
         return q;
     };
-    let kind = peek(io, c.at);
+    let kind = peek(lists, c.at);
     if kind == 0 {
         return q;
     }
     if kind != SEMI {
         return wrong(kind, c.at);
     }
-    let next = peek(io, c.at + 1);
+    let next = peek(lists, c.at + 1);
     if next != 0 {
         return wrong(next, c.at + 1);
     }
@@ -1634,14 +1631,18 @@ fn command(io: &[&[u32]; 3], nodes: &mut [u32]) -> Step
 fn start<'a>(
     kinds: &'a [u32],
     texts: &'a [u32],
-    table: &'a [u32],
+    strengths: &'a [u32],
     nodes: &mut [u32],
 ) -> Result<usize, Refusal>
-    requires { Lent kinds.now texts.now × (greatest_like kinds.now texts.now ≤ 3) × FitLists kinds.now texts.now × (table.now ≡ strength_table) }
+    requires { Lent kinds.now texts.now × (greatest_like kinds.now texts.now ≤ 3) × FitLists kinds.now texts.now × (strengths.now ≡ strength_table) }
     ensures { Reads kinds.now texts.now nodes.old (number result) (place result) nodes.new × Few kinds.now (place result) × Plain result }
 {
-    let io = [kinds, texts, table];
-    let first = command(&io, &mut nodes[..0]);
+    let lists = Lists {
+        kinds,
+        texts,
+        strengths,
+    };
+    let first = command(&lists, &mut nodes[..0]);
     match first {
         Step::Refused(why, at) => Err(Refusal {
             why,
@@ -1655,7 +1656,7 @@ fn start<'a>(
                     place: need,
                 });
             }
-            command(&io, nodes);
+            command(&lists, nodes);
             Ok(need)
         }
     }
@@ -1677,6 +1678,6 @@ pub fn read<'a>(kinds: &'a [u32], texts: &'a [u32], nodes: &mut [u32]) -> Result
             place: unfit(kinds, texts),
         });
     }
-    let table = kinds::strengths();
-    start(kinds, texts, &table[..], nodes)
+    let strengths = kinds::strengths();
+    start(kinds, texts, &strengths[..], nodes)
 }

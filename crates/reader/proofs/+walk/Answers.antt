@@ -213,7 +213,7 @@ call-list-r-requires t c = let d : (c.if-kind-eq-DISTINCT.distinct ≤ 1) × (c.
 
 pub call-returns-in_default : goal.call-returns-in_default
 unfolding expr_w
-call-returns-in_default t c = (passed_on c.list-r.ensures.0 c.in_default.is, record { does = λ a p. next (c.list-r.ensures.1.does a p) (λ f h. left _ _ _ (bare_neither _ (by_kind is_bare c.peek-kind.ensures (sym c.is_bare.ensures ∙ c.if-is_bare.false))).0 (left _ _ _ (bare_neither _ (by_kind is_bare c.peek-kind.ensures (sym c.is_bare.ensures ∙ c.if-is_bare.false))).1 (by_walk (distinct_walk (kinds_of c.args.io.now) (texts_of c.args.io.now) f c.args.at c.if-kind-eq-DISTINCT.distinct a (elim c.if-kind-eq-DISTINCT.branch [ call-then-kind-eq-DISTINCT w ↦ inl (is c.peek-kind.ensures w.if-kind-eq-DISTINCT.true, w.distinct-is) | call-else-kind-eq-DISTINCT w ↦ inr (isn't c.peek-kind.ensures w.if-kind-eq-DISTINCT.false, w.distinct-is) ])) (halts _ _ h c.in_default.is)))) })
+call-returns-in_default t c = (passed_on c.list-r.ensures.0 c.in_default.is, record { does = λ a p. next (c.list-r.ensures.1.does a p) (λ f h. left _ _ _ (bare_neither _ (by_kind is_bare c.peek-kind.ensures (sym c.is_bare.ensures ∙ c.if-is_bare.false))).0 (left _ _ _ (bare_neither _ (by_kind is_bare c.peek-kind.ensures (sym c.is_bare.ensures ∙ c.if-is_bare.false))).1 (by_walk (distinct_walk (kinds_of c.args.lists.now) (texts_of c.args.lists.now) f c.args.at c.if-kind-eq-DISTINCT.distinct a (elim c.if-kind-eq-DISTINCT.branch [ call-then-kind-eq-DISTINCT w ↦ inl (is c.peek-kind.ensures w.if-kind-eq-DISTINCT.true, w.distinct-is) | call-else-kind-eq-DISTINCT w ↦ inr (isn't c.peek-kind.ensures w.if-kind-eq-DISTINCT.false, w.distinct-is) ])) (halts _ _ h c.in_default.is)))) })
 
 pub call-overflow_cast-n_c : goal.call-overflow_cast-n_c
 call-overflow_cast-n_c t c = omega (arith, got_in c.list-r.ensures.0 c.in-Got.is, c.requires, c.peek-kind.ensures)
@@ -223,7 +223,7 @@ call-called-requires t c = omega (arith, got_in c.list-r.ensures.0 c.in-Got.is, 
 
 pub call-returns : goal.call-returns
 unfolding expr_w
-call-returns t c = (further c.called.ensures.0 (omega (arith, got_in c.list-r.ensures.0 c.in-Got.is, c.requires, c.peek-kind.ensures)), record { does = λ a p. next (c.list-r.ensures.1.does a p) (λ f h. left _ _ _ (bare_neither _ (by_kind is_bare c.peek-kind.ensures (sym c.is_bare.ensures ∙ c.if-is_bare.false))).0 (left _ _ _ (bare_neither _ (by_kind is_bare c.peek-kind.ensures (sym c.is_bare.ensures ∙ c.if-is_bare.false))).1 (by_walk (distinct_walk (kinds_of c.args.io.now) (texts_of c.args.io.now) f c.args.at c.if-kind-eq-DISTINCT.distinct a (elim c.if-kind-eq-DISTINCT.branch [ call-then-kind-eq-DISTINCT w ↦ inl (is c.peek-kind.ensures w.if-kind-eq-DISTINCT.true, w.distinct-is) | call-else-kind-eq-DISTINCT w ↦ inr (isn't c.peek-kind.ensures w.if-kind-eq-DISTINCT.false, w.distinct-is) ])) (goes _ _ h c.in-Got.is (λ rs F. c.called.ensures.1 _ rs F))))) })
+call-returns t c = (further c.called.ensures.0 (omega (arith, got_in c.list-r.ensures.0 c.in-Got.is, c.requires, c.peek-kind.ensures)), record { does = λ a p. next (c.list-r.ensures.1.does a p) (λ f h. left _ _ _ (bare_neither _ (by_kind is_bare c.peek-kind.ensures (sym c.is_bare.ensures ∙ c.if-is_bare.false))).0 (left _ _ _ (bare_neither _ (by_kind is_bare c.peek-kind.ensures (sym c.is_bare.ensures ∙ c.if-is_bare.false))).1 (by_walk (distinct_walk (kinds_of c.args.lists.now) (texts_of c.args.lists.now) f c.args.at c.if-kind-eq-DISTINCT.distinct a (elim c.if-kind-eq-DISTINCT.branch [ call-then-kind-eq-DISTINCT w ↦ inl (is c.peek-kind.ensures w.if-kind-eq-DISTINCT.true, w.distinct-is) | call-else-kind-eq-DISTINCT w ↦ inr (isn't c.peek-kind.ensures w.if-kind-eq-DISTINCT.false, w.distinct-is) ])) (goes _ _ h c.in-Got.is (λ rs F. c.called.ensures.1 _ rs F))))) })
 
 -- ── case ──
 pub case-cased-b-requires : goal.case-cased-b-requires
@@ -437,17 +437,17 @@ ex-operand-first-requires t c = omega arith
 
 pub ex-returns-in_default-first : goal.ex-returns-in_default-first
 unfolding expr_w
-ex-returns-in_default-first t c = (let f : Within 1 0 c.args.io.now c.args.at c.args.made c.if-kind-lt1.first = elim c.if-kind-lt1.branch [ ex-in-1-to-11 w ↦ same_answer w.first-is w.leaf-first.ensures.0 | ex-in_default w ↦ same_answer w.first-is w.operand-first.ensures.0 ] in passed_on f c.in_default-first.is, λ s. record { does = λ a p. let g : Later (λ f. Laid c.args.made c.args.nodes.now c.if-kind-lt1.nodes (choose (both (leb 1 (get_or (kinds_of c.args.io.now) c.args.at 0)) (leb (get_or (kinds_of c.args.io.now) c.args.at 0) 11)) (leaf_w (kinds_of c.args.io.now) (texts_of c.args.io.now) f c.args.at a s) (operand_w (kinds_of c.args.io.now) (texts_of c.args.io.now) f c.args.at a s)) c.if-kind-lt1.first) = elim c.if-kind-lt1.branch [ ex-in-1-to-11 w ↦ so ((w.leaf-first.ensures.1 s).does a p) (λ f h. took _ _ _ (by_kind (λ z. both (leb 1 z) (leb z 11)) c.peek-kind.ensures (between_in 1 11 c.peek-kind.result (omega arith) (omega arith))) (laid_joined w.nodes-is w.first-is h)) | ex-in_default w ↦ so ((w.operand-first.ensures.1 s).does a p) (λ f h. left _ _ _ (by_kind (λ z. both (leb 1 z) (leb z 11)) c.peek-kind.ensures (elim w.in_default.branch [ ex-in_default-via-then-kind-lt1 v ↦ between_out 1 11 c.peek-kind.result (λ z. omega (arith, z)) | ex-in_default-via-else-kind-lt1+else-kind-lt12 v ↦ between_out 1 11 c.peek-kind.result (λ z. omega (arith, z)) ])) (laid_joined w.nodes-is w.first-is h)) ] in next (g) (λ f h. left _ _ _ (le-ltb 64 a.level (omega (arith, p.sum, p.weak, p.few, c.if-ask-ge-TOO_DEEP.false))) (halts _ _ h c.in_default-first.is)) })
+ex-returns-in_default-first t c = (let f : Within 1 0 c.args.lists.now c.args.at c.args.made c.if-kind-lt1.first = elim c.if-kind-lt1.branch [ ex-in-1-to-11 w ↦ same_answer w.first-is w.leaf-first.ensures.0 | ex-in_default w ↦ same_answer w.first-is w.operand-first.ensures.0 ] in passed_on f c.in_default-first.is, λ s. record { does = λ a p. let g : Later (λ f. Laid c.args.made c.args.nodes.now c.if-kind-lt1.nodes (choose (both (leb 1 (get_or (kinds_of c.args.lists.now) c.args.at 0)) (leb (get_or (kinds_of c.args.lists.now) c.args.at 0) 11)) (leaf_w (kinds_of c.args.lists.now) (texts_of c.args.lists.now) f c.args.at a s) (operand_w (kinds_of c.args.lists.now) (texts_of c.args.lists.now) f c.args.at a s)) c.if-kind-lt1.first) = elim c.if-kind-lt1.branch [ ex-in-1-to-11 w ↦ so ((w.leaf-first.ensures.1 s).does a p) (λ f h. took _ _ _ (by_kind (λ z. both (leb 1 z) (leb z 11)) c.peek-kind.ensures (between_in 1 11 c.peek-kind.result (omega arith) (omega arith))) (laid_joined w.nodes-is w.first-is h)) | ex-in_default w ↦ so ((w.operand-first.ensures.1 s).does a p) (λ f h. left _ _ _ (by_kind (λ z. both (leb 1 z) (leb z 11)) c.peek-kind.ensures (elim w.in_default.branch [ ex-in_default-via-then-kind-lt1 v ↦ between_out 1 11 c.peek-kind.result (λ z. omega (arith, z)) | ex-in_default-via-else-kind-lt1+else-kind-lt12 v ↦ between_out 1 11 c.peek-kind.result (λ z. omega (arith, z)) ])) (laid_joined w.nodes-is w.first-is h)) ] in next (g) (λ f h. left _ _ _ (le-ltb 64 a.level (omega (arith, p.sum, p.weak, p.few, c.if-ask-ge-TOO_DEEP.false))) (halts _ _ h c.in_default-first.is)) })
 
 pub ex-overflow_cast-s_d : goal.ex-overflow_cast-s_d
-ex-overflow_cast-s_d t c = let f : Within 1 0 c.args.io.now c.args.at c.args.made c.if-kind-lt1.first = elim c.if-kind-lt1.branch [ ex-in-1-to-11 w ↦ same_answer w.first-is w.leaf-first.ensures.0 | ex-in_default w ↦ same_answer w.first-is w.operand-first.ensures.0 ] in omega (arith, got_in f c.in-Got.is)
+ex-overflow_cast-s_d t c = let f : Within 1 0 c.args.lists.now c.args.at c.args.made c.if-kind-lt1.first = elim c.if-kind-lt1.branch [ ex-in-1-to-11 w ↦ same_answer w.first-is w.leaf-first.ensures.0 | ex-in_default w ↦ same_answer w.first-is w.operand-first.ensures.0 ] in omega (arith, got_in f c.in-Got.is)
 
 pub ex-ops-requires : goal.ex-ops-requires
-ex-ops-requires t c = let f : Within 1 0 c.args.io.now c.args.at c.args.made c.if-kind-lt1.first = elim c.if-kind-lt1.branch [ ex-in-1-to-11 w ↦ same_answer w.first-is w.leaf-first.ensures.0 | ex-in_default w ↦ same_answer w.first-is w.operand-first.ensures.0 ] in omega (arith, got_in f c.in-Got.is, c.requires)
+ex-ops-requires t c = let f : Within 1 0 c.args.lists.now c.args.at c.args.made c.if-kind-lt1.first = elim c.if-kind-lt1.branch [ ex-in-1-to-11 w ↦ same_answer w.first-is w.leaf-first.ensures.0 | ex-in_default w ↦ same_answer w.first-is w.operand-first.ensures.0 ] in omega (arith, got_in f c.in-Got.is, c.requires)
 
 pub ex-returns : goal.ex-returns
 unfolding expr_w
-ex-returns t c = let f : Within 1 0 c.args.io.now c.args.at c.args.made c.if-kind-lt1.first = elim c.if-kind-lt1.branch [ ex-in-1-to-11 w ↦ same_answer w.first-is w.leaf-first.ensures.0 | ex-in_default w ↦ same_answer w.first-is w.operand-first.ensures.0 ] in (further c.ops.ensures.0 (omega (arith, got_in f c.in-Got.is, c.requires)), λ s. record { does = λ a p. let g : Later (λ f. Laid c.args.made c.args.nodes.now c.if-kind-lt1.nodes (choose (both (leb 1 (get_or (kinds_of c.args.io.now) c.args.at 0)) (leb (get_or (kinds_of c.args.io.now) c.args.at 0) 11)) (leaf_w (kinds_of c.args.io.now) (texts_of c.args.io.now) f c.args.at a s) (operand_w (kinds_of c.args.io.now) (texts_of c.args.io.now) f c.args.at a s)) c.if-kind-lt1.first) = elim c.if-kind-lt1.branch [ ex-in-1-to-11 w ↦ so ((w.leaf-first.ensures.1 s).does a p) (λ f h. took _ _ _ (by_kind (λ z. both (leb 1 z) (leb z 11)) c.peek-kind.ensures (between_in 1 11 c.peek-kind.result (omega arith) (omega arith))) (laid_joined w.nodes-is w.first-is h)) | ex-in_default w ↦ so ((w.operand-first.ensures.1 s).does a p) (λ f h. left _ _ _ (by_kind (λ z. both (leb 1 z) (leb z 11)) c.peek-kind.ensures (elim w.in_default.branch [ ex-in_default-via-then-kind-lt1 v ↦ between_out 1 11 c.peek-kind.result (λ z. omega (arith, z)) | ex-in_default-via-else-kind-lt1+else-kind-lt12 v ↦ between_out 1 11 c.peek-kind.result (λ z. omega (arith, z)) ])) (laid_joined w.nodes-is w.first-is h)) ] in next (g also for_any _ _ (λ pre e. (c.ops.ensures.1 s pre e).does a p) (got_in f c.in-Got.is).more) (λ f h. left _ _ _ (le-ltb 64 a.level (omega (arith, p.sum, p.weak, p.few, c.if-ask-ge-TOO_DEEP.false))) (goes _ _ h.0 c.in-Got.is (λ rs F. behind _ _ F (h.1 (length rs) F.counted)))) })
+ex-returns t c = let f : Within 1 0 c.args.lists.now c.args.at c.args.made c.if-kind-lt1.first = elim c.if-kind-lt1.branch [ ex-in-1-to-11 w ↦ same_answer w.first-is w.leaf-first.ensures.0 | ex-in_default w ↦ same_answer w.first-is w.operand-first.ensures.0 ] in (further c.ops.ensures.0 (omega (arith, got_in f c.in-Got.is, c.requires)), λ s. record { does = λ a p. let g : Later (λ f. Laid c.args.made c.args.nodes.now c.if-kind-lt1.nodes (choose (both (leb 1 (get_or (kinds_of c.args.lists.now) c.args.at 0)) (leb (get_or (kinds_of c.args.lists.now) c.args.at 0) 11)) (leaf_w (kinds_of c.args.lists.now) (texts_of c.args.lists.now) f c.args.at a s) (operand_w (kinds_of c.args.lists.now) (texts_of c.args.lists.now) f c.args.at a s)) c.if-kind-lt1.first) = elim c.if-kind-lt1.branch [ ex-in-1-to-11 w ↦ so ((w.leaf-first.ensures.1 s).does a p) (λ f h. took _ _ _ (by_kind (λ z. both (leb 1 z) (leb z 11)) c.peek-kind.ensures (between_in 1 11 c.peek-kind.result (omega arith) (omega arith))) (laid_joined w.nodes-is w.first-is h)) | ex-in_default w ↦ so ((w.operand-first.ensures.1 s).does a p) (λ f h. left _ _ _ (by_kind (λ z. both (leb 1 z) (leb z 11)) c.peek-kind.ensures (elim w.in_default.branch [ ex-in_default-via-then-kind-lt1 v ↦ between_out 1 11 c.peek-kind.result (λ z. omega (arith, z)) | ex-in_default-via-else-kind-lt1+else-kind-lt12 v ↦ between_out 1 11 c.peek-kind.result (λ z. omega (arith, z)) ])) (laid_joined w.nodes-is w.first-is h)) ] in next (g also for_any _ _ (λ pre e. (c.ops.ensures.1 s pre e).does a p) (got_in f c.in-Got.is).more) (λ f h. left _ _ _ (le-ltb 64 a.level (omega (arith, p.sum, p.weak, p.few, c.if-ask-ge-TOO_DEEP.false))) (goes _ _ h.0 c.in-Got.is (λ rs F. behind _ _ F (h.1 (length rs) F.counted)))) })
 
 -- ── exists ──
 pub exists-wrong-requires : goal.exists-wrong-requires
@@ -648,7 +648,7 @@ leaf-overflow_add-at t c = omega arith
 
 pub leaf-returns-then-code-gt0 : goal.leaf-returns-then-code-gt0
 unfolding expr_w
-leaf-returns-then-code-gt0 t c = (ended c.got.ensures (omega (arith, c.requires, c.emit-m.ensures.0, c.if-code-gt0.true)), λ s. record { does = λ a p. at_once (λ f. took _ _ _ (by_kind (λ k. ltb 0 (literal_code k)) c.requires.3 (lt-ltb 0 (literal_code c.args.kind) (omega (arith, c.literal_code-code.ensures, c.if-code-gt0.true)))) (laid c.got.ensures refl (filled_as (ap₂ (λ y z. one y z 0 1) (c.literal_code-code.ensures ∙ ap literal_code c.requires.3.is) (c.literal_text.ensures ∙ ap (literal_text c.args.io.now c.args.at) c.requires.3.is)) c.emit-m.ensures.1))) })
+leaf-returns-then-code-gt0 t c = (ended c.got.ensures (omega (arith, c.requires, c.emit-m.ensures.0, c.if-code-gt0.true)), λ s. record { does = λ a p. at_once (λ f. took _ _ _ (by_kind (λ k. ltb 0 (literal_code k)) c.requires.3 (lt-ltb 0 (literal_code c.args.kind) (omega (arith, c.literal_code-code.ensures, c.if-code-gt0.true)))) (laid c.got.ensures refl (filled_as (ap₂ (λ y z. one y z 0 1) (c.literal_code-code.ensures ∙ ap literal_code c.requires.3.is) (c.literal_text.ensures ∙ ap (literal_text c.args.lists.now c.args.at) c.requires.3.is)) c.emit-m.ensures.1))) })
 
 pub leaf-named-m-requires : goal.leaf-named-m-requires
 leaf-named-m-requires t c = omega arith
@@ -677,7 +677,7 @@ leaf-dotted-requires t c = omega (arith, c.requires, c.peek-next.ensures, c.name
 
 pub leaf-returns : goal.leaf-returns
 unfolding expr_w
-leaf-returns t c = (further c.dotted.ensures.0 (omega (arith, c.requires, c.peek-next.ensures, c.named-m.ensures.0, c.if-code-gt0.false)), λ s. record { does = λ a p. at_once (λ f. left _ _ _ (by_kind (λ k. ltb 0 (literal_code k)) c.requires.3 (le-ltb 0 (literal_code c.args.kind) (omega (arith, c.literal_code-code.ensures, c.if-code-gt0.false)))) (left _ _ _ (elim c.if-next-eq-LP.branch [ leaf-then-next-eq-LP+else-kind-ne-INDEXED w ↦ no_right _ _ (by_kind heads_call c.requires.3 (indexed_heads_none _ w.if-kind-ne-INDEXED.false)) | leaf-else-next-eq-LP w ↦ no_left _ _ (isn't c.peek-next.ensures w.if-next-eq-LP.false) ]) (behind _ _ (c.named-m.ensures.1 c.requires.3.is) (by_walk (ap (λ z. dotted_w (kinds_of c.args.io.now) (texts_of c.args.io.now) (c.args.at + 1) z) (sym (c.asked.ensures ∙ strength_of p))) c.dotted.ensures.1)))) })
+leaf-returns t c = (further c.dotted.ensures.0 (omega (arith, c.requires, c.peek-next.ensures, c.named-m.ensures.0, c.if-code-gt0.false)), λ s. record { does = λ a p. at_once (λ f. left _ _ _ (by_kind (λ k. ltb 0 (literal_code k)) c.requires.3 (le-ltb 0 (literal_code c.args.kind) (omega (arith, c.literal_code-code.ensures, c.if-code-gt0.false)))) (left _ _ _ (elim c.if-next-eq-LP.branch [ leaf-then-next-eq-LP+else-kind-ne-INDEXED w ↦ no_right _ _ (by_kind heads_call c.requires.3 (indexed_heads_none _ w.if-kind-ne-INDEXED.false)) | leaf-else-next-eq-LP w ↦ no_left _ _ (isn't c.peek-next.ensures w.if-next-eq-LP.false) ]) (behind _ _ (c.named-m.ensures.1 c.requires.3.is) (by_walk (ap (λ z. dotted_w (kinds_of c.args.lists.now) (texts_of c.args.lists.now) (c.args.at + 1) z) (sym (c.asked.ensures ∙ strength_of p))) c.dotted.ensures.1)))) })
 
 -- ── limit ──
 pub limit-absent-m-requires : goal.limit-absent-m-requires
@@ -818,13 +818,13 @@ pub op-overflow_add-at-then-kind-eq-NOT-2 : goal.op-overflow_add-at-then-kind-eq
 op-overflow_add-at-then-kind-eq-NOT-2 t c = omega arith
 
 pub op-overflow_add-not-in-40 : goal.op-overflow_add-not-in-40
-op-overflow_add-not-in-40 t c = let n : c.if-kind-eq-NOT.not ≤ 1 = omega arith in let s : Seen c.args.io.now (c.args.at + c.if-kind-eq-NOT.not) c.if-kind-eq-NOT-2.word = elim c.if-kind-eq-NOT.branch [ op-then-kind-eq-NOT v ↦ elim c.if-kind-eq-NOT-2.branch [ op-then-kind-eq-NOT-2 w ↦ seen_as w.peek-word.ensures (omega arith) w.word-is | op-else-kind-eq-NOT-2 w ↦ absurd (omega arith) ] | op-else-kind-eq-NOT v ↦ elim c.if-kind-eq-NOT-2.branch [ op-then-kind-eq-NOT-2 w ↦ absurd (omega arith) | op-else-kind-eq-NOT-2 w ↦ seen_as c.requires.3 (omega arith) w.word-is ] ] in let l : c.text.result ≤ 3 = rw c.text.ensures (like_text _ _ c.requires.0.liked (sym s.is ∙ c.in-40.is)) in omega (arith)
+op-overflow_add-not-in-40 t c = let n : c.if-kind-eq-NOT.not ≤ 1 = omega arith in let s : Seen c.args.lists.now (c.args.at + c.if-kind-eq-NOT.not) c.if-kind-eq-NOT-2.word = elim c.if-kind-eq-NOT.branch [ op-then-kind-eq-NOT v ↦ elim c.if-kind-eq-NOT-2.branch [ op-then-kind-eq-NOT-2 w ↦ seen_as w.peek-word.ensures (omega arith) w.word-is | op-else-kind-eq-NOT-2 w ↦ absurd (omega arith) ] | op-else-kind-eq-NOT v ↦ elim c.if-kind-eq-NOT-2.branch [ op-then-kind-eq-NOT-2 w ↦ absurd (omega arith) | op-else-kind-eq-NOT-2 w ↦ seen_as c.requires.3 (omega arith) w.word-is ] ] in let l : c.text.result ≤ 3 = rw c.text.ensures (like_text c.args.lists.now _ c.args.lists.now.liked (sym s.is ∙ c.in-40.is)) in omega (arith)
 
 pub op-notnull-requires : goal.op-notnull-requires
 op-notnull-requires t c = omega arith
 
 pub op-returns-then-not-eq1 : goal.op-returns-then-not-eq1
-op-returns-then-not-eq1 t c = let way : Way c.args.io.now c.args.at c.args.kind c.if-kind-eq-NOT.not c.if-kind-eq-NOT-2.word = way_of c.args.at (elim c.if-kind-eq-NOT.branch [ op-then-kind-eq-NOT w ↦ inl (w.if-kind-eq-NOT.true, w.not-is) | op-else-kind-eq-NOT w ↦ inr (w.if-kind-eq-NOT.false, w.not-is) ]) (elim c.if-kind-eq-NOT-2.branch [ op-then-kind-eq-NOT-2 w ↦ inl (w.if-kind-eq-NOT-2.true, seen_as w.peek-word.ensures refl w.word-is) | op-else-kind-eq-NOT-2 w ↦ inr (w.if-kind-eq-NOT-2.false, w.word-is) ]) in (let n : c.if-kind-eq-NOT.not ≤ 1 = omega arith in let s : Seen c.args.io.now (c.args.at + c.if-kind-eq-NOT.not) c.if-kind-eq-NOT-2.word = elim c.if-kind-eq-NOT.branch [ op-then-kind-eq-NOT v ↦ elim c.if-kind-eq-NOT-2.branch [ op-then-kind-eq-NOT-2 w ↦ seen_as w.peek-word.ensures (omega arith) w.word-is | op-else-kind-eq-NOT-2 w ↦ absurd (omega arith) ] | op-else-kind-eq-NOT v ↦ elim c.if-kind-eq-NOT-2.branch [ op-then-kind-eq-NOT-2 w ↦ absurd (omega arith) | op-else-kind-eq-NOT-2 w ↦ seen_as c.requires.3 (omega arith) w.word-is ] ] in null_before c.notnull.ensures.0 (λ e. omega (arith)) (omega (arith)), λ s pre b. record { does = λ a p. op_null a s pre c.requires.3 way c.if-not-eq1.true c.in_default.in_default-own.rest.0.0.1 c.in_default.in_default-own.rest.0.1 c.in_default.in_default-own.rest.1 (c.notnull.ensures.1 pre b) })
+op-returns-then-not-eq1 t c = let way : Way c.args.lists.now c.args.at c.args.kind c.if-kind-eq-NOT.not c.if-kind-eq-NOT-2.word = way_of c.args.at (elim c.if-kind-eq-NOT.branch [ op-then-kind-eq-NOT w ↦ inl (w.if-kind-eq-NOT.true, w.not-is) | op-else-kind-eq-NOT w ↦ inr (w.if-kind-eq-NOT.false, w.not-is) ]) (elim c.if-kind-eq-NOT-2.branch [ op-then-kind-eq-NOT-2 w ↦ inl (w.if-kind-eq-NOT-2.true, seen_as w.peek-word.ensures refl w.word-is) | op-else-kind-eq-NOT-2 w ↦ inr (w.if-kind-eq-NOT-2.false, w.word-is) ]) in (let n : c.if-kind-eq-NOT.not ≤ 1 = omega arith in let s : Seen c.args.lists.now (c.args.at + c.if-kind-eq-NOT.not) c.if-kind-eq-NOT-2.word = elim c.if-kind-eq-NOT.branch [ op-then-kind-eq-NOT v ↦ elim c.if-kind-eq-NOT-2.branch [ op-then-kind-eq-NOT-2 w ↦ seen_as w.peek-word.ensures (omega arith) w.word-is | op-else-kind-eq-NOT-2 w ↦ absurd (omega arith) ] | op-else-kind-eq-NOT v ↦ elim c.if-kind-eq-NOT-2.branch [ op-then-kind-eq-NOT-2 w ↦ absurd (omega arith) | op-else-kind-eq-NOT-2 w ↦ seen_as c.requires.3 (omega arith) w.word-is ] ] in null_before c.notnull.ensures.0 (λ e. omega (arith)) (omega (arith)), λ s pre b. record { does = λ a p. op_null a s pre c.requires.3 way c.if-not-eq1.true c.in_default.in_default-own.rest.0.0.1 c.in_default.in_default-own.rest.0.1 c.in_default.in_default-own.rest.1 (c.notnull.ensures.1 pre b) })
 
 pub op-overflow_sub-made : goal.op-overflow_sub-made
 op-overflow_sub-made t c = omega (arith, c.requires, c.if-not-eq1.false, c.if-kind-lt-NOT.false)
@@ -836,22 +836,22 @@ pub op-emit-m-requires : goal.op-emit-m-requires
 op-emit-m-requires t c = omega (arith, c.requires, c.if-not-eq1.false, c.if-kind-lt-NOT.false)
 
 pub op-returns-in-38 : goal.op-returns-in-38
-op-returns-in-38 t c = let way : Way c.args.io.now c.args.at c.args.kind c.if-kind-eq-NOT.not c.if-kind-eq-NOT-2.word = way_of c.args.at (elim c.if-kind-eq-NOT.branch [ op-then-kind-eq-NOT w ↦ inl (w.if-kind-eq-NOT.true, w.not-is) | op-else-kind-eq-NOT w ↦ inr (w.if-kind-eq-NOT.false, w.not-is) ]) (elim c.if-kind-eq-NOT-2.branch [ op-then-kind-eq-NOT-2 w ↦ inl (w.if-kind-eq-NOT-2.true, seen_as w.peek-word.ensures refl w.word-is) | op-else-kind-eq-NOT-2 w ↦ inr (w.if-kind-eq-NOT-2.false, w.word-is) ]) in (further c.among.ensures.0 (omega (arith, c.requires, c.if-kind-lt-NOT.false)), λ s pre b. record { does = λ a p. op_inside a s pre c.requires.3 (omega (arith, c.if-kind-lt-NOT.false)) way c.in-38.is ((c.among.ensures.1 s pre b).does a p) })
+op-returns-in-38 t c = let way : Way c.args.lists.now c.args.at c.args.kind c.if-kind-eq-NOT.not c.if-kind-eq-NOT-2.word = way_of c.args.at (elim c.if-kind-eq-NOT.branch [ op-then-kind-eq-NOT w ↦ inl (w.if-kind-eq-NOT.true, w.not-is) | op-else-kind-eq-NOT w ↦ inr (w.if-kind-eq-NOT.false, w.not-is) ]) (elim c.if-kind-eq-NOT-2.branch [ op-then-kind-eq-NOT-2 w ↦ inl (w.if-kind-eq-NOT-2.true, seen_as w.peek-word.ensures refl w.word-is) | op-else-kind-eq-NOT-2 w ↦ inr (w.if-kind-eq-NOT-2.false, w.word-is) ]) in (further c.among.ensures.0 (omega (arith, c.requires, c.if-kind-lt-NOT.false)), λ s pre b. record { does = λ a p. op_inside a s pre c.requires.3 (omega (arith, c.if-kind-lt-NOT.false)) way c.in-38.is ((c.among.ensures.1 s pre b).does a p) })
 
 pub op-returns-in-39 : goal.op-returns-in-39
-op-returns-in-39 t c = let way : Way c.args.io.now c.args.at c.args.kind c.if-kind-eq-NOT.not c.if-kind-eq-NOT-2.word = way_of c.args.at (elim c.if-kind-eq-NOT.branch [ op-then-kind-eq-NOT w ↦ inl (w.if-kind-eq-NOT.true, w.not-is) | op-else-kind-eq-NOT w ↦ inr (w.if-kind-eq-NOT.false, w.not-is) ]) (elim c.if-kind-eq-NOT-2.branch [ op-then-kind-eq-NOT-2 w ↦ inl (w.if-kind-eq-NOT-2.true, seen_as w.peek-word.ensures refl w.word-is) | op-else-kind-eq-NOT-2 w ↦ inr (w.if-kind-eq-NOT-2.false, w.word-is) ]) in (further c.range.ensures.0 (omega (arith, c.requires, c.if-kind-lt-NOT.false)), λ s pre b. record { does = λ a p. op_between a s pre c.requires.3 (omega (arith, c.if-kind-lt-NOT.false)) way c.in-39.is ((c.range.ensures.1 s pre b).does a p) })
+op-returns-in-39 t c = let way : Way c.args.lists.now c.args.at c.args.kind c.if-kind-eq-NOT.not c.if-kind-eq-NOT-2.word = way_of c.args.at (elim c.if-kind-eq-NOT.branch [ op-then-kind-eq-NOT w ↦ inl (w.if-kind-eq-NOT.true, w.not-is) | op-else-kind-eq-NOT w ↦ inr (w.if-kind-eq-NOT.false, w.not-is) ]) (elim c.if-kind-eq-NOT-2.branch [ op-then-kind-eq-NOT-2 w ↦ inl (w.if-kind-eq-NOT-2.true, seen_as w.peek-word.ensures refl w.word-is) | op-else-kind-eq-NOT-2 w ↦ inr (w.if-kind-eq-NOT-2.false, w.word-is) ]) in (further c.range.ensures.0 (omega (arith, c.requires, c.if-kind-lt-NOT.false)), λ s pre b. record { does = λ a p. op_between a s pre c.requires.3 (omega (arith, c.if-kind-lt-NOT.false)) way c.in-39.is ((c.range.ensures.1 s pre b).does a p) })
 
 pub op-returns-in-40 : goal.op-returns-in-40
-op-returns-in-40 t c = let way : Way c.args.io.now c.args.at c.args.kind c.if-kind-eq-NOT.not c.if-kind-eq-NOT-2.word = way_of c.args.at (elim c.if-kind-eq-NOT.branch [ op-then-kind-eq-NOT w ↦ inl (w.if-kind-eq-NOT.true, w.not-is) | op-else-kind-eq-NOT w ↦ inr (w.if-kind-eq-NOT.false, w.not-is) ]) (elim c.if-kind-eq-NOT-2.branch [ op-then-kind-eq-NOT-2 w ↦ inl (w.if-kind-eq-NOT-2.true, seen_as w.peek-word.ensures refl w.word-is) | op-else-kind-eq-NOT-2 w ↦ inr (w.if-kind-eq-NOT-2.false, w.word-is) ]) in (further c.binary-in-40.ensures.0 (omega (arith, c.requires, c.if-kind-lt-NOT.false)), λ s pre b. record { does = λ a p. op_like a s pre c.requires.3 (omega (arith, c.if-kind-lt-NOT.false)) way c.in-40.is _ c.text.ensures ((c.binary-in-40.ensures.1 s pre b).does a p) })
+op-returns-in-40 t c = let way : Way c.args.lists.now c.args.at c.args.kind c.if-kind-eq-NOT.not c.if-kind-eq-NOT-2.word = way_of c.args.at (elim c.if-kind-eq-NOT.branch [ op-then-kind-eq-NOT w ↦ inl (w.if-kind-eq-NOT.true, w.not-is) | op-else-kind-eq-NOT w ↦ inr (w.if-kind-eq-NOT.false, w.not-is) ]) (elim c.if-kind-eq-NOT-2.branch [ op-then-kind-eq-NOT-2 w ↦ inl (w.if-kind-eq-NOT-2.true, seen_as w.peek-word.ensures refl w.word-is) | op-else-kind-eq-NOT-2 w ↦ inr (w.if-kind-eq-NOT-2.false, w.word-is) ]) in (further c.binary-in-40.ensures.0 (omega (arith, c.requires, c.if-kind-lt-NOT.false)), λ s pre b. record { does = λ a p. op_like a s pre c.requires.3 (omega (arith, c.if-kind-lt-NOT.false)) way c.in-40.is _ c.text.ensures ((c.binary-in-40.ensures.1 s pre b).does a p) })
 
 pub op-returns-after-peek-eq-NOT : goal.op-returns-after-peek-eq-NOT
-op-returns-after-peek-eq-NOT t c = let way : Way c.args.io.now c.args.at c.args.kind c.if-kind-eq-NOT.not c.if-kind-eq-NOT-2.word = way_of c.args.at (elim c.if-kind-eq-NOT.branch [ op-then-kind-eq-NOT w ↦ inl (w.if-kind-eq-NOT.true, w.not-is) | op-else-kind-eq-NOT w ↦ inr (w.if-kind-eq-NOT.false, w.not-is) ]) (elim c.if-kind-eq-NOT-2.branch [ op-then-kind-eq-NOT-2 w ↦ inl (w.if-kind-eq-NOT-2.true, seen_as w.peek-word.ensures refl w.word-is) | op-else-kind-eq-NOT-2 w ↦ inr (w.if-kind-eq-NOT-2.false, w.word-is) ]) in (further c.binary-in-37.ensures.0 (omega (arith, c.requires, c.peek.ensures, c.if-not-eq1.false, c.if-kind-lt-NOT.false)), λ s pre b. record { does = λ a p. op_is a s pre c.requires.3 (omega (arith, c.if-kind-lt-NOT.false)) way c.if-not-eq1.false c.in_default.in_default-own.rest.0.0.1 c.in_default.in_default-own.rest.0.1 c.in_default.in_default-own.rest.1 c.in-37.is c.if-peek-eq-NOT.isnot _ c.peek.ensures (elim c.if-peek-eq-NOT.branch [ op-then-peek-eq-NOT w ↦ inl (w.if-peek-eq-NOT.true, w.isnot-is) | op-else-peek-eq-NOT w ↦ inr (w.if-peek-eq-NOT.false, w.isnot-is) ]) ((c.binary-in-37.ensures.1 s pre b).does a p) })
+op-returns-after-peek-eq-NOT t c = let way : Way c.args.lists.now c.args.at c.args.kind c.if-kind-eq-NOT.not c.if-kind-eq-NOT-2.word = way_of c.args.at (elim c.if-kind-eq-NOT.branch [ op-then-kind-eq-NOT w ↦ inl (w.if-kind-eq-NOT.true, w.not-is) | op-else-kind-eq-NOT w ↦ inr (w.if-kind-eq-NOT.false, w.not-is) ]) (elim c.if-kind-eq-NOT-2.branch [ op-then-kind-eq-NOT-2 w ↦ inl (w.if-kind-eq-NOT-2.true, seen_as w.peek-word.ensures refl w.word-is) | op-else-kind-eq-NOT-2 w ↦ inr (w.if-kind-eq-NOT-2.false, w.word-is) ]) in (further c.binary-in-37.ensures.0 (omega (arith, c.requires, c.peek.ensures, c.if-not-eq1.false, c.if-kind-lt-NOT.false)), λ s pre b. record { does = λ a p. op_is a s pre c.requires.3 (omega (arith, c.if-kind-lt-NOT.false)) way c.if-not-eq1.false c.in_default.in_default-own.rest.0.0.1 c.in_default.in_default-own.rest.0.1 c.in_default.in_default-own.rest.1 c.in-37.is c.if-peek-eq-NOT.isnot _ c.peek.ensures (elim c.if-peek-eq-NOT.branch [ op-then-peek-eq-NOT w ↦ inl (w.if-peek-eq-NOT.true, w.isnot-is) | op-else-peek-eq-NOT w ↦ inr (w.if-peek-eq-NOT.false, w.isnot-is) ]) ((c.binary-in-37.ensures.1 s pre b).does a p) })
 
 pub op-returns-in-43 : goal.op-returns-in-43
-op-returns-in-43 t c = let way : Way c.args.io.now c.args.at c.args.kind c.if-kind-eq-NOT.not c.if-kind-eq-NOT-2.word = way_of c.args.at (elim c.if-kind-eq-NOT.branch [ op-then-kind-eq-NOT w ↦ inl (w.if-kind-eq-NOT.true, w.not-is) | op-else-kind-eq-NOT w ↦ inr (w.if-kind-eq-NOT.false, w.not-is) ]) (elim c.if-kind-eq-NOT-2.branch [ op-then-kind-eq-NOT-2 w ↦ inl (w.if-kind-eq-NOT-2.true, seen_as w.peek-word.ensures refl w.word-is) | op-else-kind-eq-NOT-2 w ↦ inr (w.if-kind-eq-NOT-2.false, w.word-is) ]) in (further c.collate.ensures.0 (omega (arith, c.requires, c.if-not-eq1.false, c.if-kind-lt-NOT.false)), λ s pre b. record { does = λ a p. op_collate a s pre c.requires.3 (omega (arith, c.if-kind-lt-NOT.false)) way c.if-not-eq1.false c.in_default.in_default-own.rest.0.0.1 c.in_default.in_default-own.rest.0.1 c.in_default.in_default-own.rest.1 c.in-43.is (c.collate.ensures.1 pre b) })
+op-returns-in-43 t c = let way : Way c.args.lists.now c.args.at c.args.kind c.if-kind-eq-NOT.not c.if-kind-eq-NOT-2.word = way_of c.args.at (elim c.if-kind-eq-NOT.branch [ op-then-kind-eq-NOT w ↦ inl (w.if-kind-eq-NOT.true, w.not-is) | op-else-kind-eq-NOT w ↦ inr (w.if-kind-eq-NOT.false, w.not-is) ]) (elim c.if-kind-eq-NOT-2.branch [ op-then-kind-eq-NOT-2 w ↦ inl (w.if-kind-eq-NOT-2.true, seen_as w.peek-word.ensures refl w.word-is) | op-else-kind-eq-NOT-2 w ↦ inr (w.if-kind-eq-NOT-2.false, w.word-is) ]) in (further c.collate.ensures.0 (omega (arith, c.requires, c.if-not-eq1.false, c.if-kind-lt-NOT.false)), λ s pre b. record { does = λ a p. op_collate a s pre c.requires.3 (omega (arith, c.if-kind-lt-NOT.false)) way c.if-not-eq1.false c.in_default.in_default-own.rest.0.0.1 c.in_default.in_default-own.rest.0.1 c.in_default.in_default-own.rest.1 c.in-43.is (c.collate.ensures.1 pre b) })
 
 pub op-returns-in_default-kind : goal.op-returns-in_default-kind
-op-returns-in_default-kind t c = let way : Way c.args.io.now c.args.at c.args.kind c.if-kind-eq-NOT.not c.if-kind-eq-NOT-2.word = way_of c.args.at (elim c.if-kind-eq-NOT.branch [ op-then-kind-eq-NOT w ↦ inl (w.if-kind-eq-NOT.true, w.not-is) | op-else-kind-eq-NOT w ↦ inr (w.if-kind-eq-NOT.false, w.not-is) ]) (elim c.if-kind-eq-NOT-2.branch [ op-then-kind-eq-NOT-2 w ↦ inl (w.if-kind-eq-NOT-2.true, seen_as w.peek-word.ensures refl w.word-is) | op-else-kind-eq-NOT-2 w ↦ inr (w.if-kind-eq-NOT-2.false, w.word-is) ]) in (let n : c.if-kind-eq-NOT.not ≤ 1 = omega arith in ended c.got.ensures (omega (arith)), λ s pre b. record { does = λ a p. op_postfix a s pre c.requires.3 (omega (arith, c.if-kind-lt-NOT.false)) way c.if-not-eq1.false c.in_default.in_default-own.rest.0.0.1 c.in_default.in_default-own.rest.0.1 c.in_default.in_default-own.rest.1 c.in_default-kind.in_default-kind-own.rest.0.1 c.in_default-kind.in_default-kind-own.rest.1 (laid c.got.ensures refl (closed _ pre b c.emit-m.ensures.1)) })
+op-returns-in_default-kind t c = let way : Way c.args.lists.now c.args.at c.args.kind c.if-kind-eq-NOT.not c.if-kind-eq-NOT-2.word = way_of c.args.at (elim c.if-kind-eq-NOT.branch [ op-then-kind-eq-NOT w ↦ inl (w.if-kind-eq-NOT.true, w.not-is) | op-else-kind-eq-NOT w ↦ inr (w.if-kind-eq-NOT.false, w.not-is) ]) (elim c.if-kind-eq-NOT-2.branch [ op-then-kind-eq-NOT-2 w ↦ inl (w.if-kind-eq-NOT-2.true, seen_as w.peek-word.ensures refl w.word-is) | op-else-kind-eq-NOT-2 w ↦ inr (w.if-kind-eq-NOT-2.false, w.word-is) ]) in (let n : c.if-kind-eq-NOT.not ≤ 1 = omega arith in ended c.got.ensures (omega (arith)), λ s pre b. record { does = λ a p. op_postfix a s pre c.requires.3 (omega (arith, c.if-kind-lt-NOT.false)) way c.if-not-eq1.false c.in_default.in_default-own.rest.0.0.1 c.in_default.in_default-own.rest.0.1 c.in_default.in_default-own.rest.1 c.in_default-kind.in_default-kind-own.rest.0.1 c.in_default-kind.in_default-kind-own.rest.1 (laid c.got.ensures refl (closed _ pre b c.emit-m.ensures.1)) })
 
 -- ── operand ──
 pub operand-overflow_add-at : goal.operand-overflow_add-at
@@ -1003,7 +1003,7 @@ parts-group-requires t c = omega (arith, got_in c.clause-w.ensures.0 c.in-Got-w.
 
 pub parts-returns-in_default : goal.parts-returns-in_default
 unfolding expr_w absences
-parts-returns-in_default t c = (ended c.got.ensures (omega (arith, c.requires, c.absent-m.ensures.0, c.peek-kind.ensures)), record { does = λ a p. at_second (λ f. by_walk (no_parts (kinds_of c.args.io.now) (texts_of c.args.io.now) f c.args.at a (isn't c.peek-kind.ensures (λ e. c.in_default-1.rest.1 (inl e))) (isn't c.peek-kind.ensures (λ e. omega (arith, e))) (isn't c.peek-kind.ensures (λ e. omega (arith, e))) (isn't c.peek-kind.ensures (λ e. c.in_default-1.rest.1 (inr e)))) (laid c.got.ensures refl c.absent-m.ensures.1)) })
+parts-returns-in_default t c = (ended c.got.ensures (omega (arith, c.requires, c.absent-m.ensures.0, c.peek-kind.ensures)), record { does = λ a p. at_second (λ f. by_walk (no_parts (kinds_of c.args.lists.now) (texts_of c.args.lists.now) f c.args.at a (isn't c.peek-kind.ensures (λ e. c.in_default-1.rest.1 (inl e))) (isn't c.peek-kind.ensures (λ e. omega (arith, e))) (isn't c.peek-kind.ensures (λ e. omega (arith, e))) (isn't c.peek-kind.ensures (λ e. c.in_default-1.rest.1 (inr e)))) (laid c.got.ensures refl c.absent-m.ensures.1)) })
 
 pub parts-returns-in-Got-w : goal.parts-returns-in-Got-w
 unfolding expr_w absences
@@ -1175,7 +1175,7 @@ select-cols-l-requires t c = let d : c.match-kind.detail ≤ c.peek-kind.result 
 
 pub select-returns-in_default-l : goal.select-returns-in_default-l
 unfolding expr_w
-select-returns-in_default-l t c = (passed_on c.cols-l.ensures.0 c.in_default-l.is, record { does = λ a p. next (next (c.cols-l.ensures.1.does a p) (λ f h. halts _ _ h c.in_default-l.is)) (λ f h. by_walk (select_walk (kinds_of c.args.io.now) (texts_of c.args.io.now) f c.args.at a c.match-kind.detail c.if-detail-gt0.word (elim c.match-kind.branch [ select-in-54 w ↦ inl (is c.peek-kind.ensures w.in-54.is, w.detail-is) | select-in-55 w ↦ inr (inl (differs _ c.peek-kind.ensures w.in-55.is refl, is c.peek-kind.ensures w.in-55.is, w.detail-is)) | select-in_default w ↦ inr (inr (isn't c.peek-kind.ensures w.in_default.in_default-own.rest.0.1, isn't c.peek-kind.ensures w.in_default.in_default-own.rest.1, w.detail-is)) ]) (elim c.if-detail-gt0.branch [ select-then-detail-gt0 w ↦ inl (w.if-detail-gt0.true, w.word-is) | select-else-detail-gt0 w ↦ inr (w.if-detail-gt0.false, w.word-is) ])) h) })
+select-returns-in_default-l t c = (passed_on c.cols-l.ensures.0 c.in_default-l.is, record { does = λ a p. next (next (c.cols-l.ensures.1.does a p) (λ f h. halts _ _ h c.in_default-l.is)) (λ f h. by_walk (select_walk (kinds_of c.args.lists.now) (texts_of c.args.lists.now) f c.args.at a c.match-kind.detail c.if-detail-gt0.word (elim c.match-kind.branch [ select-in-54 w ↦ inl (is c.peek-kind.ensures w.in-54.is, w.detail-is) | select-in-55 w ↦ inr (inl (differs _ c.peek-kind.ensures w.in-55.is refl, is c.peek-kind.ensures w.in-55.is, w.detail-is)) | select-in_default w ↦ inr (inr (isn't c.peek-kind.ensures w.in_default.in_default-own.rest.0.1, isn't c.peek-kind.ensures w.in_default.in_default-own.rest.1, w.detail-is)) ]) (elim c.if-detail-gt0.branch [ select-then-detail-gt0 w ↦ inl (w.if-detail-gt0.true, w.word-is) | select-else-detail-gt0 w ↦ inr (w.if-detail-gt0.false, w.word-is) ])) h) })
 
 pub select-overflow_cast-n_c : goal.select-overflow_cast-n_c
 select-overflow_cast-n_c t c = omega (arith, got_in c.cols-l.ensures.0 c.in-Got.is, c.requires, c.peek-kind.ensures)
@@ -1194,7 +1194,7 @@ select-parts-f-requires t c = omega (arith, got_in c.cols-l.ensures.0 c.in-Got.i
 
 pub select-returns-in_default-f : goal.select-returns-in_default-f
 unfolding expr_w
-select-returns-in_default-f t c = (passed_on c.parts-f.ensures.0 c.in_default-f.is, record { does = λ a p. next (next (c.cols-l.ensures.1.does a p also c.parts-f.ensures.1.does a p) (λ f h. goes _ _ h.0 c.in-Got.is (λ rs F. halts _ _ h.1 c.in_default-f.is))) (λ f h. by_walk (select_walk (kinds_of c.args.io.now) (texts_of c.args.io.now) f c.args.at a c.match-kind.detail c.if-detail-gt0.word (elim c.match-kind.branch [ select-in-54 w ↦ inl (is c.peek-kind.ensures w.in-54.is, w.detail-is) | select-in-55 w ↦ inr (inl (differs _ c.peek-kind.ensures w.in-55.is refl, is c.peek-kind.ensures w.in-55.is, w.detail-is)) | select-in_default w ↦ inr (inr (isn't c.peek-kind.ensures w.in_default.in_default-own.rest.0.1, isn't c.peek-kind.ensures w.in_default.in_default-own.rest.1, w.detail-is)) ]) (elim c.if-detail-gt0.branch [ select-then-detail-gt0 w ↦ inl (w.if-detail-gt0.true, w.word-is) | select-else-detail-gt0 w ↦ inr (w.if-detail-gt0.false, w.word-is) ])) h) })
+select-returns-in_default-f t c = (passed_on c.parts-f.ensures.0 c.in_default-f.is, record { does = λ a p. next (next (c.cols-l.ensures.1.does a p also c.parts-f.ensures.1.does a p) (λ f h. goes _ _ h.0 c.in-Got.is (λ rs F. halts _ _ h.1 c.in_default-f.is))) (λ f h. by_walk (select_walk (kinds_of c.args.lists.now) (texts_of c.args.lists.now) f c.args.at a c.match-kind.detail c.if-detail-gt0.word (elim c.match-kind.branch [ select-in-54 w ↦ inl (is c.peek-kind.ensures w.in-54.is, w.detail-is) | select-in-55 w ↦ inr (inl (differs _ c.peek-kind.ensures w.in-55.is refl, is c.peek-kind.ensures w.in-55.is, w.detail-is)) | select-in_default w ↦ inr (inr (isn't c.peek-kind.ensures w.in_default.in_default-own.rest.0.1, isn't c.peek-kind.ensures w.in_default.in_default-own.rest.1, w.detail-is)) ]) (elim c.if-detail-gt0.branch [ select-then-detail-gt0 w ↦ inl (w.if-detail-gt0.true, w.word-is) | select-else-detail-gt0 w ↦ inr (w.if-detail-gt0.false, w.word-is) ])) h) })
 
 pub select-overflow_sub-d : goal.select-overflow_sub-d
 select-overflow_sub-d t c = omega (arith, got_in c.parts-f.ensures.0 c.in-Got-f.is, c.emit-listed.ensures.0, got_in c.cols-l.ensures.0 c.in-Got.is, c.requires, c.peek-kind.ensures)
@@ -1207,7 +1207,7 @@ select-emit-m-requires t c = omega (arith, got_in c.parts-f.ensures.0 c.in-Got-f
 
 pub select-returns : goal.select-returns
 unfolding expr_w
-select-returns t c = (ended c.got.ensures (omega (arith, got_in c.parts-f.ensures.0 c.in-Got-f.is, c.emit-m.ensures.0, c.emit-listed.ensures.0, got_in c.cols-l.ensures.0 c.in-Got.is, c.requires, c.peek-kind.ensures)), record { does = λ a p. next (next (c.cols-l.ensures.1.does a p also c.parts-f.ensures.1.does a p) (λ f h. goes _ _ h.0 c.in-Got.is (λ rs F. goes _ _ h.1 c.in-Got-f.is (λ qs G. laid c.got.ensures refl (topped (topped F c.emit-listed.ensures.1 then G) c.emit-m.ensures.1))))) (λ f h. by_walk (select_walk (kinds_of c.args.io.now) (texts_of c.args.io.now) f c.args.at a c.match-kind.detail c.if-detail-gt0.word (elim c.match-kind.branch [ select-in-54 w ↦ inl (is c.peek-kind.ensures w.in-54.is, w.detail-is) | select-in-55 w ↦ inr (inl (differs _ c.peek-kind.ensures w.in-55.is refl, is c.peek-kind.ensures w.in-55.is, w.detail-is)) | select-in_default w ↦ inr (inr (isn't c.peek-kind.ensures w.in_default.in_default-own.rest.0.1, isn't c.peek-kind.ensures w.in_default.in_default-own.rest.1, w.detail-is)) ]) (elim c.if-detail-gt0.branch [ select-then-detail-gt0 w ↦ inl (w.if-detail-gt0.true, w.word-is) | select-else-detail-gt0 w ↦ inr (w.if-detail-gt0.false, w.word-is) ])) h) })
+select-returns t c = (ended c.got.ensures (omega (arith, got_in c.parts-f.ensures.0 c.in-Got-f.is, c.emit-m.ensures.0, c.emit-listed.ensures.0, got_in c.cols-l.ensures.0 c.in-Got.is, c.requires, c.peek-kind.ensures)), record { does = λ a p. next (next (c.cols-l.ensures.1.does a p also c.parts-f.ensures.1.does a p) (λ f h. goes _ _ h.0 c.in-Got.is (λ rs F. goes _ _ h.1 c.in-Got-f.is (λ qs G. laid c.got.ensures refl (topped (topped F c.emit-listed.ensures.1 then G) c.emit-m.ensures.1))))) (λ f h. by_walk (select_walk (kinds_of c.args.lists.now) (texts_of c.args.lists.now) f c.args.at a c.match-kind.detail c.if-detail-gt0.word (elim c.match-kind.branch [ select-in-54 w ↦ inl (is c.peek-kind.ensures w.in-54.is, w.detail-is) | select-in-55 w ↦ inr (inl (differs _ c.peek-kind.ensures w.in-55.is refl, is c.peek-kind.ensures w.in-55.is, w.detail-is)) | select-in_default w ↦ inr (inr (isn't c.peek-kind.ensures w.in_default.in_default-own.rest.0.1, isn't c.peek-kind.ensures w.in_default.in_default-own.rest.1, w.detail-is)) ]) (elim c.if-detail-gt0.branch [ select-then-detail-gt0 w ↦ inl (w.if-detail-gt0.true, w.word-is) | select-else-detail-gt0 w ↦ inr (w.if-detail-gt0.false, w.word-is) ])) h) })
 
 -- ── sign ──
 pub sign-wrong-requires : goal.sign-wrong-requires
@@ -1402,7 +1402,7 @@ tail-returns-in-70 t c = (further c.limit-in-70.ensures.0 (omega (arith, c.requi
 
 pub tail-returns-in_default : goal.tail-returns-in_default
 unfolding expr_w absences
-tail-returns-in_default t c = (ended c.got.ensures (omega arith), record { does = λ a p. at_second (λ f. by_walk (no_tail (kinds_of c.args.io.now) (texts_of c.args.io.now) f c.args.at a (isn't c.peek-kind.ensures c.in_default.in_default-own.rest.0.1) (isn't c.peek-kind.ensures c.in_default.in_default-own.rest.1)) (laid c.got.ensures refl c.absent-m-in_default.ensures.1)) })
+tail-returns-in_default t c = (ended c.got.ensures (omega arith), record { does = λ a p. at_second (λ f. by_walk (no_tail (kinds_of c.args.lists.now) (texts_of c.args.lists.now) f c.args.at a (isn't c.peek-kind.ensures c.in_default.in_default-own.rest.0.1) (isn't c.peek-kind.ensures c.in_default.in_default-own.rest.1)) (laid c.got.ensures refl c.absent-m-in_default.ensures.1)) })
 
 -- ── when ──
 pub when-loop-c-init : goal.when-loop-c-init

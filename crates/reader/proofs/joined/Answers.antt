@@ -50,7 +50,7 @@ loop-kind-smaller c = omega (arith, c.requires, c.if-words-eq3.false, c.if-kind-
 
 pub loop-kind-preserved : goal.loop-kind-preserved
 unfolding joined_w
-loop-kind-preserved c = let u : c.united-flags.result ≤ 63 = rw (c.united-flags.ensures, c.flags.ensures) (united_small _ _ c.loop-kind.invariant.0.2) in (omega arith, c.loop-kind.invariant.1 - 1, omega (arith, c.loop-kind.invariant.2, c.loop-kind.invariant.0, c.if-words-eq3.false), c.loop-kind.invariant.3 ∙ join_word_lem (kinds_of c.args.io.now) (texts_of c.args.io.now) c.loop-kind.invariant.1 c.loop-kind.at c.loop-kind.flags (omega (arith, c.loop-kind.invariant.2, c.loop-kind.invariant.0, c.if-words-eq3.false)) (isn't c.peek-kind.ensures c.if-kind-eq-JOIN.false) (is c.peek-kind.ensures c.if-kind-ne-JOIN_KW.false) ∙ ap (λ z. join_w (kinds_of c.args.io.now) (texts_of c.args.io.now) (c.loop-kind.invariant.1 - 1) (c.loop-kind.at + 1) z) (sym (c.united-flags.ensures ∙ ap (united c.loop-kind.flags) (c.flags.ensures ∙ ap flags_of c.text.ensures))))
+loop-kind-preserved c = let u : c.united-flags.result ≤ 63 = rw (c.united-flags.ensures, c.flags.ensures) (united_small _ _ c.loop-kind.invariant.0.2) in (omega arith, c.loop-kind.invariant.1 - 1, omega (arith, c.loop-kind.invariant.2, c.loop-kind.invariant.0, c.if-words-eq3.false), c.loop-kind.invariant.3 ∙ join_word_lem (kinds_of c.args.lists.now) (texts_of c.args.lists.now) c.loop-kind.invariant.1 c.loop-kind.at c.loop-kind.flags (omega (arith, c.loop-kind.invariant.2, c.loop-kind.invariant.0, c.if-words-eq3.false)) (isn't c.peek-kind.ensures c.if-kind-eq-JOIN.false) (is c.peek-kind.ensures c.if-kind-ne-JOIN_KW.false) ∙ ap (λ z. join_w (kinds_of c.args.lists.now) (texts_of c.args.lists.now) (c.loop-kind.invariant.1 - 1) (c.loop-kind.at + 1) z) (sym (c.united-flags.ensures ∙ ap (united c.loop-kind.flags) (c.flags.ensures ∙ ap flags_of c.text.ensures))))
 
 pub overflow_cast-result : goal.overflow_cast-result
 overflow_cast-result c = omega arith

@@ -6,7 +6,7 @@ use mathlib.Core.Path.{◌≡◌}
 use Rattle.reader.proofs.joined.Given as goal
 
 abbrev pub invariant-loop-kind : goal.invariant-loop-kind
-invariant-loop-kind l = ((l.at ≤ tokens l.io) × (l.from ≤ l.at) × (l.flags ≤ 63) × (l.words ≤ 3)) × (more : ℕ) × (more + l.words ≡ 3) × (join_w (kinds_of l.io) (texts_of l.io) 3 l.from NO_FLAGS ≡ join_w (kinds_of l.io) (texts_of l.io) more l.at l.flags)
+invariant-loop-kind l = ((l.at ≤ tokens l.lists) × (l.from ≤ l.at) × (l.flags ≤ 63) × (l.words ≤ 3)) × (more : ℕ) × (more + l.words ≡ 3) × (join_w (kinds_of l.lists) (texts_of l.lists) 3 l.from NO_FLAGS ≡ join_w (kinds_of l.lists) (texts_of l.lists) more l.at l.flags)
 
 abbrev pub decreases-loop-kind : goal.decreases-loop-kind
-decreases-loop-kind l = tokens l.io - l.at
+decreases-loop-kind l = tokens l.lists - l.at

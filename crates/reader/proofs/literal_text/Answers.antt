@@ -8,8 +8,8 @@ use Rattle.reader.proofs.literal_text.Goals as goal
 
 pub returns-then-kind-eq-NULL : goal.returns-then-kind-eq-NULL
 unfolding choose
-returns-then-kind-eq-NULL c = ap (λ z. choose z 0 (get_or (texts_of c.args.io.now) c.args.at 0)) (sym (eqb-true _ _ c.if-kind-eq-NULL.true))
+returns-then-kind-eq-NULL c = ap (λ z. choose z 0 (get_or (texts_of c.args.lists.now) c.args.at 0)) (sym (eqb-true _ _ c.if-kind-eq-NULL.true))
 
 pub returns : goal.returns
 unfolding choose
-returns c = c.text.ensures ∙ ap (λ z. choose z 0 (get_or (texts_of c.args.io.now) c.args.at 0)) (sym (ne_eqb _ _ c.if-kind-eq-NULL.false))
+returns c = c.text.ensures ∙ ap (λ z. choose z 0 (get_or (texts_of c.args.lists.now) c.args.at 0)) (sym (ne_eqb _ _ c.if-kind-eq-NULL.false))

@@ -12,4 +12,4 @@ pub returns-then-not-all_fit : goal.returns-then-not-all_fit
 returns-then-not-all_fit c = (refusal_2 (record { equal = c.if-kinds-texts.false; short = c.if-kinds-gt-TOKENS.false }) (c.unfit.ensures.1 (λ u. 0≢1 (sym c.if-not-all_fit.true ∙ c.all_fit.ensures.2 u))) refl refl, omega (arith, c.unfit.ensures.0), omega arith)
 
 pub start-requires : goal.start-requires
-start-requires c = (record { equal = c.if-kinds-texts.false; short = c.if-kinds-gt-TOKENS.false }, c.all_fit.ensures.0 c.if-not-all_fit.false, c.all_fit.ensures.1 c.if-not-all_fit.false, c.strengths-table.ensures)
+start-requires c = (record { equal = c.if-kinds-texts.false; short = c.if-kinds-gt-TOKENS.false }, c.all_fit.ensures.0 c.if-not-all_fit.false, c.all_fit.ensures.1 c.if-not-all_fit.false, c.strengths-strengths.ensures)
