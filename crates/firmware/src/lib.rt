@@ -6,7 +6,7 @@ ghost use Rattle.std.specs.Prelude.{◌≡◌};
 ghost use Rattle.grammar.specs.Promise.{Reads, Writes};
 ghost use Rattle.reader.specs.Answers.{number, place, Few};
 
-use reader::Answer;
+use reader::Refusal;
 
 // 01's number and place of an answer: 0 and a count, or a refusal. C's `cjarvint_answer`.
 #[repr(C)]
@@ -16,18 +16,20 @@ pub struct Told {
     pub place: usize,
 }
 
-fn tell(got: Answer) -> Told
-    ensures { (result.number ≡ number got) × (result.place ≡ place got) }
-{
-    match got {
-        Answer::Accepted(count) => Told {
-            number: 0,
-            place: count,
-        },
-        Answer::Refused(n, p) => Told {
-            number: n,
-            place: p,
-        },
+impl From<Result<usize, Refusal>> for Told {
+    ghost from_gives = { λ got told. (told.number ≡ number got) × (told.place ≡ place got) };
+
+    fn from(got: Result<usize, Refusal>) -> Told {
+        match got {
+            Ok(count) => Told {
+                number: 0,
+                place: count,
+            },
+            Err(refusal) => Told {
+                number: refusal.why.number(),
+                place: refusal.place,
+            },
+        }
     }
 }
 
@@ -35,8 +37,7 @@ fn tell(got: Answer) -> Told
 pub extern "C" fn cjarvint_read<'a>(kinds: &'a [u32], texts: &'a [u32], nodes: &mut [u32]) -> Told
     ensures { Reads kinds.now texts.now nodes.old result.number result.place nodes.new × Few kinds.now result.place }
 {
-    let got = reader::read(kinds, texts, nodes);
-    tell(got)
+    reader::read(kinds, texts, nodes).into()
 }
 
 #[unsafe(no_mangle)]
@@ -49,6 +50,5 @@ pub extern "C" fn cjarvint_write<'a>(
 ) -> Told
     ensures { Writes kinds.now texts.now nodes.old out_kinds.old out_texts.old result.number result.place nodes.new out_kinds.new out_texts.new }
 {
-    let got = writer::write(kinds, texts, nodes, out_kinds, out_texts);
-    tell(got)
+    writer::write(kinds, texts, nodes, out_kinds, out_texts).into()
 }

@@ -1,19 +1,19 @@
 -- From what a function of the cycle is given to what it gives its callees, and its tokens by theirs. Assumes nothing.
 use mathlib.Core.Bool.{true, false}
 use mathlib.Core.List.{List, [], ◌∷◌, ◌++◌, append_assoc, append-nil}
-use mathlib.Core.Logic.{◌⊎◌, inl, inr, ⊎_elim}
+use mathlib.Core.Logic.{inl, inr, ⊎_elim}
 use mathlib.Core.Path.{◌≡◌, refl, sym, ap, ap₂, ◌∙◌}
 use Prim.Native.Nat.{ℕ, ◌+◌, ◌-◌, ◌<◌, ◌≤◌}
 use lib.Dec.{eqb}
 use native.Mathlib.Omega.{arith}
 use Rattle.theory.specs.Trees.{Tok}
 use Rattle.theory.proofs.Cases.{0≢1, eqb-true, eqb_eq, by_bool}
-use Rattle.kinds.specs.Kinds.{AND, AS, BETWEEN, BY, CASE, CAST, DISTINCT, DOT, ELSE, END, EXISTS, FROM, GROUP, IN, LP, ON, ORDER, RP, STAR, USING}
+use Rattle.kinds.specs.Kinds.{AND, AS, BETWEEN, BY, CASE, CAST, DISTINCT, DOT, ELSE, END, EXISTS, GROUP, IN, LP, ON, ORDER, RP, STAR}
 use Rattle.grammar.specs.NodeNames.{node_query, node_list, node_join, node_on, node_using, node_names, node_call, node_parens, node_subquery, node_exists, node_case, node_cast, node_prefix, node_binary, node_in_list, node_in_query, node_between}
 use Rattle.grammar.specs.Reading.{choose}
-use Rattle.grammar.specs.Writing.{at, after as put_after, within, parted, rows, grouped, binary_toks, binary_str, not_if, node_str, tok}
+use Rattle.grammar.specs.Writing.{at, after as put_after, within, parted, grouped, binary_toks, binary_str, not_if, node_str, tok}
 use Rattle.canon.proofs.Folds.{P}
-use Rattle.shapes.specs.Shape.{Class, a_query, a_body, a_column, a_from, a_source, a_join, a_constraint, a_sort, an_expr, a_name, absence, list_of, any_of, empty_list, many_of, Shaped, shaped_more}
+use Rattle.shapes.specs.Shape.{Class, a_query, a_source, a_join, a_constraint, a_sort, an_expr, a_name, list_of, any_of, many_of, Shaped, shaped_more}
 use Rattle.scribe.proofs.Standing.{Puts}
 use Rattle.scribe.proofs.Tokens.{puts_as, ◌after◌}
 use Rattle.scribe.proofs.Whole.{Whole, piece_at, before_of}

@@ -23,14 +23,13 @@ ghost use Rattle.scribe.proofs.Parts.{Spells, Coded, Term, Operand, Terms, Insid
 ghost use Rattle.reader.specs.Answers.{number, place, Plain};
 ghost use Rattle.writer.specs.Pages.{nodes_of, Ruled, Field, First, Bared, Taken, Wrote, Writ, Trails, Closes, Bounds, MOST, Walks};
 
-use kinds::node;
 use kinds::{
     AND, AS, BETWEEN, BLOB, BY, CASE, CAST, COLLATE, COMMA, CTIME_KW, DESC, DISTINCT, DOT, ELSE,
     END, EXISTS, FIRST, FLOAT, FROM, GROUP, HAVING, ID, IN, INDEXED, INTEGER, IS, JOIN, JOIN_KW,
     LAST, LIKE_KW, LIMIT, LP, NOT, NULL, NULLS, OFFSET, ON, ORDER, RP, SELECT, STAR, STRING, THEN,
-    USING, VALUES, VARIABLE, WHEN, WHERE,
+    USING, VALUES, VARIABLE, WHEN, WHERE, node,
 };
-use reader::{Answer, WIDTH};
+use reader::{Reason, Refusal, WIDTH};
 
 // Where the walk that counts begins: above every place that a writing reaches.
 const HIGH: u32 = 1 << 20;
@@ -888,7 +887,7 @@ fn walks<'a>(
     records: u32,
     out_kinds: &mut [u32],
     out_texts: &mut [u32],
-) -> Answer
+) -> Result<usize, Refusal>
     requires { (table.now ≡ strength_table) × Whole a_query nodes.now records × (records ≤ MOST) × (length out_kinds.old ≡ length out_texts.old) }
     ensures { Walks nodes.now records out_kinds.old out_texts.old (number result) (place result) out_kinds.new out_texts.new × Plain result }
 {
@@ -903,11 +902,14 @@ fn walks<'a>(
         );
     let need = count as usize;
     if need > out_kinds.len() {
-        return Answer::Refused(10, need);
+        return Err(Refusal {
+            why: Reason::OutputShort,
+            place: need,
+        });
     }
     walk(nodes, table, &table[..0], records, out_kinds, count);
     walk(nodes, table, table, records, out_texts, count);
-    Answer::Accepted(need)
+    Ok(need)
 }
 
 // Writes the command's canonical writing, or refuses it; what is refused leaves the lists as they were, but 10
@@ -918,16 +920,16 @@ pub fn write<'a>(
     nodes: &mut [u32],
     out_kinds: &mut [u32],
     out_texts: &mut [u32],
-) -> Answer
+) -> Result<usize, Refusal>
     ensures { Writes kinds.now texts.now nodes.old out_kinds.old out_texts.old (number result) (place result) nodes.new out_kinds.new out_texts.new × Plain result }
 {
     if out_kinds.len() != out_texts.len() {
-        return Answer::Refused(1, 0);
+        return Err(Refusal {
+            why: Reason::Lengths,
+            place: 0,
+        });
     }
-    let got = reader::read(kinds, texts, nodes);
-    let Answer::Accepted(records) = got else {
-        return got;
-    };
+    let records = reader::read(kinds, texts, nodes)?;
     let table = kinds::strengths();
     walks(nodes, &table[..], records as u32, out_kinds, out_texts)
 }

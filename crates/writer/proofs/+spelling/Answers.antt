@@ -9,7 +9,7 @@ use Rattle.scribe.proofs.Kids.{known, Maybe, may_there}
 use Rattle.scribe.proofs.Parts.{Terms, terms_toks, Term, leads_of, Perhaps, may_toks, Inside, limit_toks, tail_toks}
 use Rattle.kinds.specs.Kinds.{DISTINCT, HAVING, SELECT}
 use Rattle.grammar.specs.Reading.{choose}
-use Rattle.grammar.specs.Writing.{tok, within, at, joined}
+use Rattle.grammar.specs.Writing.{tok, within, at}
 use mathlib.Core.Path.{sym, ap, ◌∙◌, subst⁻¹, refl, ap₂}
 use mathlib.Core.List.{[], ◌∷◌, ◌++◌}
 use Prim.Native.Nat.{◌-◌}
