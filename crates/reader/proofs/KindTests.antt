@@ -22,6 +22,7 @@ use Rattle.descent.proofs.Places.{wrong}
 use Rattle.descent.proofs.Fill.{Filled}
 use Rattle.descent.proofs.Walk.{Walked, done, stop, bind, onto, over, missing, deeper, too_deep_w, join_w, called_w, expr_w, op_w, ops_w, list_w, sign_w, parts_w, tail_w, select_w, selected_w}
 use Rattle.reader.specs.declared.lists.Lists.{Lists}
+use Rattle.reader.specs.declared.ask.Ask.{Ask}
 use Rattle.reader.specs.Bounds.{kinds_of, texts_of, strength_asked, Seen}
 use Rattle.reader.specs.Laying.{Laid, TooDeep, is_bare, begins_join}
 use Rattle.reader.specs.declared.Cursor.{Cursor}
@@ -69,7 +70,7 @@ stops true true x at = refl
 stops true false x at = refl
 stops false d x at = refl
 
-pub deep_walk : {made : ℕ} {N N' : List ℕ} {r : Step} {lists : Lists} {at kind : ℕ} (ask s : ℕ) → Seen lists at kind → strength_asked ask ≡ s → TooDeep kind (strength_asked ask) at r → Laid made N N' (too_deep_w (kinds_of lists) (texts_of lists) at s) r
+pub deep_walk : {made : ℕ} {N N' : List ℕ} {r : Step} {lists : Lists} {at kind : ℕ} (ask : Ask) (s : ℕ) → Seen lists at kind → strength_asked ask ≡ s → TooDeep kind (strength_asked ask) at r → Laid made N N' (too_deep_w (kinds_of lists) (texts_of lists) at s) r
 unfolding too_deep_w
 deep_walk {lists = lists} {at = at} {kind = kind} ask s e a h =
     let k : ℕ = get_or (kinds_of lists) at 0 in

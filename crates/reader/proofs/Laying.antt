@@ -18,6 +18,8 @@ use Rattle.descent.proofs.Walk.{Walked, done, stop, spent, bind, onto, over, mis
 use Rattle.descent.proofs.Fill.{Filled}
 use Rattle.descent.proofs.Filling.{◌then◌}
 use Rattle.reader.specs.declared.lists.Lists.{Lists}
+use Rattle.reader.specs.declared.ask.Ask.{Ask}
+use Rattle.reader.specs.Asked.{queries_in, strength_in}
 use Rattle.reader.specs.Bounds.{kinds_of, queries_of, strength_asked, Seen}
 use Rattle.reader.specs.Refusals.{number_of}
 use Rattle.reader.specs.declared.refusal.Reason.{Reason}
@@ -247,27 +249,27 @@ two_ways a a' b x y z e (inl h) = ap (λ t. choose t x (choose b y z)) h ∙ sym
 two_ways a a' b x y z e (inr h) = ap (λ t. choose a x (choose t y z)) h ∙ ap (λ t. choose t x y) e
 
 -- ── what is asked ──
-module _ {c : Around} {s₀ ask : ℕ} where
+module _ {c : Around} {s₀ : ℕ} {ask : Ask} where
   -- another strength
-  pub repacked : {s : ℕ} → Packed c s₀ ask → s < 16 → Packed c s (ask / 16 * 16 + s)
-  repacked p h = record { sum = omega (arith, p.sum, p.weak); weak = h; few = p.few }
+  pub repacked : {s : ℕ} {r : Ask} → Packed c s₀ ask → s < 16 → r.code ≡ ask.code / 16 * 16 + s → Packed c s r
+  repacked p h e = record { sum = omega (arith, p.sum, p.weak, e); weak = h; few = p.few }
 
   -- a level deeper
-  pub one_deeper : Packed c s₀ ask → Packed (deeper c) s₀ (ask + 512)
-  one_deeper p = record { sum = omega (arith, p.sum); weak = p.weak; few = p.few }
+  pub one_deeper : {r : Ask} → Packed c s₀ ask → r.code ≡ ask.code + 512 → Packed (deeper c) s₀ r
+  one_deeper p e = record { sum = omega (arith, p.sum, e); weak = p.weak; few = p.few }
 
   -- a query opened, which asks for strength 1
-  pub query_opened : Packed c s₀ ask → s₀ ≡ 0 → c.opened < 16 → Packed (opening c) 1 (ask + 16 + 1)
-  query_opened p e h = record { sum = omega (arith, p.sum, e); weak = omega arith; few = omega (arith, h) }
+  pub query_opened : {r : Ask} → Packed c s₀ ask → s₀ ≡ 0 → c.opened < 16 → r.code ≡ ask.code + 16 + 1 → Packed (opening c) 1 r
+  query_opened p e h i = record { sum = omega (arith, p.sum, e, i); weak = omega arith; few = omega (arith, h) }
 
   pub strength_of : Packed c s₀ ask → strength_asked ask ≡ s₀
-  unfolding strength_asked
+  unfolding strength_in
   strength_of p = omega (arith, p.sum, p.weak)
 
   pub queries_of_lem : Packed c s₀ ask → queries_of ask ≡ c.opened
-  unfolding queries_of
+  unfolding queries_in
   queries_of_lem p = omega (arith, p.sum, p.weak, p.few)
 
 -- the outermost query
-pub outer_packed : Packed outer 0 512
-outer_packed = record { sum = refl; weak = omega arith; few = omega arith }
+pub outer_packed : {ask : Ask} → ask.code ≡ 512 → Packed outer 0 ask
+outer_packed e = record { sum = e; weak = omega arith; few = omega arith }

@@ -8,7 +8,8 @@ use Rattle.reader.specs.declared.Cursor.{Cursor}
 use Rattle.reader.specs.declared.Step.{Step}
 use Rattle.reader.specs.declared.Step.TheVariants as step
 use Rattle.reader.specs.declared.lists.Lists.{Lists}
-use Rattle.reader.specs.Bounds.{tokens, queries_of, strength_asked, Asks, Seen, Ends, WithinAt, Within, Refuses, OneOnAt, OneOn, OpensAt, Opens, NullBeforeAt, NullBefore}
+use Rattle.reader.specs.declared.ask.Ask.{Ask}
+use Rattle.reader.specs.Bounds.{tokens, queries_of, Seen, Ends, WithinAt, Within, Refuses, OneOnAt, OneOn, OpensAt, Opens, NullBeforeAt, NullBefore}
 
 module _ {reads slack : ℕ} {lists : Lists} {at made : ℕ} {r : Step} where
   -- of an answer that is taken apart
@@ -63,18 +64,18 @@ module _ {at : ℕ} {r : Step} where
   one_on_refused h = record { holds = subst⁻¹ (λ (s : Step). OneOnAt at s) h.is tt }
 
 -- a query opened
-module _ {ask : ℕ} {r : Step} where
+module _ {ask : Ask} {r : Step} where
   pub opens_in : {said count : ℕ} {d : Cursor} → Opens ask r → r ≡ step.Got said count d → queries_of ask < 16
   opens_in w e = subst (λ (s : Step). OpensAt ask s) e w.holds
 
   pub opens_refused : {p : ℕ} → Refuses p r → Opens ask r
   opens_refused h = record { holds = subst⁻¹ (λ (s : Step). OpensAt ask s) h.is tt }
 
-opens_at : (ask : ℕ) (r : Step) → queries_of ask < 16 → OpensAt ask r
+opens_at : (ask : Ask) (r : Step) → queries_of ask < 16 → OpensAt ask r
 opens_at ask (step.Got said count d) h = h
 opens_at ask (step.Refused n p) h = tt
 
-pub opened : {ask : ℕ} {r : Step} → queries_of ask < 16 → Opens ask r
+pub opened : {ask : Ask} {r : Step} → queries_of ask < 16 → Opens ask r
 opened {ask} {r} h = record { holds = opens_at ask r h }
 
 -- NOT NULL
@@ -95,8 +96,3 @@ module _ {next made word : ℕ} {r : Step} where
   pub null_got : {said count : ℕ} {d : Cursor} → r ≡ step.Got said count d
       → (word ≡ 11) × (d.at ≡ next) × (d.made ≡ made + 1) × (count ≡ 0) × (said ≡ 12) → NullBefore next made word r
   null_got e h = record { holds = subst⁻¹ (λ (s : Step). NullBeforeAt next made word s) e h }
-
--- what is asked, where a query opens
-pub opening : (ask : ℕ) → Asks 66 ask → strength_asked ask ≡ 0 → queries_of ask < 16 → Asks 66 (ask + 16 + 1)
-unfolding queries_of strength_asked
-opening ask a s q = omega arith

@@ -1,6 +1,8 @@
 -- The bounds that the reader keeps: what each function needs of its caller, and what its answer is within.
 -- They say nothing of what is read, only that no sum wraps, no index is past its list, and the reading ends.
-use Rattle.std.specs.Prelude.{◌≡◌, List, ℕ, ◌+◌, ◌-◌, ◌*◌, ◌/◌, ◌%◌, ◌≤◌, ◌<◌, length, get_or}
+use Rattle.std.specs.Prelude.{◌≡◌, List, ℕ, ◌+◌, ◌-◌, ◌*◌, ◌≤◌, ◌<◌, length, get_or}
+use Rattle.reader.specs.Asked.{queries_in, strength_in}
+use Rattle.reader.specs.declared.ask.Ask.{Ask}
 use Rattle.reader.specs.declared.lists.Lists.{Lists}
 use Rattle.reader.specs.declared.Cursor.{Cursor}
 use Rattle.reader.specs.declared.refusal.Reason.{Reason}
@@ -18,17 +20,16 @@ texts_of lists = lists.texts.now
 abbrev pub tokens : Lists → ℕ
 tokens lists = length (kinds_of lists)
 
--- what is asked is one number, 512 * level + 16 * queries open + strength asked
-unfoldable pub queries_of : ℕ → ℕ
-queries_of ask = ask % 512 / 16
+-- of what is asked
+abbrev pub queries_of : Ask → ℕ
+queries_of ask = queries_in ask.code
 
-unfoldable pub strength_asked : ℕ → ℕ
-strength_asked ask = ask % 16
+abbrev pub strength_asked : Ask → ℕ
+strength_asked ask = strength_in ask.code
 
--- the levels are fewer than so many, and the queries open at most sixteen
-pub record Asks (levels ask : ℕ) : Type 0 where
-  pub shallow : ask < levels * 512
-  pub few : queries_of ask ≤ 16
+-- the levels are fewer than 01's, so an expression may begin
+abbrev pub Shallow : Ask → Type 0
+Shallow ask = ask.code < 65 * 512
 
 -- what a reader needs of its caller at a place, with so many records made: it is within the list, and there is room for the records
 -- that the reader may make of absent parts, with no token read
@@ -73,11 +74,11 @@ pub record OneOn (at : ℕ) (r : Step) : Type 0 where
   pub holds : OneOnAt at r
 
 -- what is read is a query, and there was room for one more
-abbrev pub OpensAt : ℕ → Step → Type 0
+abbrev pub OpensAt : Ask → Step → Type 0
 OpensAt ask (step.Got said count d) = queries_of ask < 16
 OpensAt ask (step.Refused n p) = Unit {0}
 
-pub record Opens (ask : ℕ) (r : Step) : Type 0 where
+pub record Opens (ask : Ask) (r : Step) : Type 0 where
   pub holds : OpensAt ask r
 
 -- NULL before `next` and a record more, or a refusal there

@@ -9,8 +9,9 @@ use Rattle.grammar.specs.Nodes.{Rec, rec}
 use Rattle.grammar.specs.Reading.{choose}
 use Rattle.grammar.specs.Promise.{AllFit, FirstUnfit, tokens as promised}
 use Rattle.descent.proofs.Places.{wrong}
-use Rattle.descent.proofs.Walk.{Walked, done, stop, bind, over, missing, name_rec, rows_w}
+use Rattle.descent.proofs.Walk.{Walked, done, stop, bind, over, missing, opening, name_rec, rows_w}
 use Rattle.descent.proofs.Fill.{Filled}
+use Rattle.reader.specs.declared.ask.Ask.{Ask}
 use Rattle.reader.specs.declared.lists.Lists.{Lists}
 use Rattle.reader.specs.Bounds.{kinds_of, texts_of}
 use Rattle.reader.specs.Refusals.{number_of}
@@ -37,17 +38,21 @@ pub record Later (P : ℕ → Type 0) : Type 0 where
   pub holds : (f : ℕ) → least ≤ f → P f
 
 -- what is asked says the level and the queries around, and the strength
-pub record Packed (c : Around) (s ask : ℕ) : Type 0 where
-  pub sum : ask ≡ 512 * c.level + 16 * c.opened + s
+pub record Packed (c : Around) (s : ℕ) (ask : Ask) : Type 0 where
+  pub sum : ask.code ≡ 512 * c.level + 16 * c.opened + s
   pub weak : s < 16
   pub few : c.opened ≤ 16
 
 -- r asks for strength s where the levels and queries are those of `ask`, changed so
-pub record Passes (change : Around → Around) (ask s r : ℕ) : Type 0 where
+pub record Passes (change : Around → Around) (ask : Ask) (s : ℕ) (r : Ask) : Type 0 where
   pub packs : (c : Around) (s₀ : ℕ) → Packed c s₀ ask → Packed (change c) s r
 
+-- r is asked within a query that opens where `ask` is asked
+pub record OpensOne (ask r : Ask) : Type 0 where
+  pub opens : (c : Around) → Packed c 0 ask → c.opened < 16 → Packed (opening c) 1 r
+
 -- a walk for which strength s is asked
-pub record Does (s ask made : ℕ) (N N' : List ℕ) (lists : Lists) (walk : List ℕ → List ℕ → ℕ → Around → Walked) (r : Step) : Type 0 where
+pub record Does (s : ℕ) (ask : Ask) (made : ℕ) (N N' : List ℕ) (lists : Lists) (walk : List ℕ → List ℕ → ℕ → Around → Walked) (r : Step) : Type 0 where
   pub does : (c : Around) → Packed c s ask → Later (λ f. Laid made N N' (walk (kinds_of lists) (texts_of lists) f c) r)
 
 -- a loop: whatever the walk w' comes to from here on, the walk w comes to from its beginning on

@@ -1,3 +1,4 @@
+pub mod Asked
 pub mod Likes
 pub mod Refusals
 pub mod Bounds

@@ -2,6 +2,7 @@
 // empty table, judges and counts; the second writes.
 #![tactic(auto)]
 
+mod ask;
 mod lists;
 mod refusal;
 
@@ -12,15 +13,16 @@ ghost use Rattle.grammar.specs.Nodes.{Rec};
 ghost use Rattle.grammar.specs.Reading.{choose};
 ghost use Rattle.descent.proofs.Fill.{Filled};
 ghost use Rattle.descent.proofs.Walk.{done, bind, deeper, name_rec, name_w, close_w, dotted_w, dots_w, called_w, collate_w, alias_w, qualified_w, index_w, table_w, lent_w, nulls_w, way_w, joined_w, using_w, ended_w, expr_w, leaf_w, operand_w, ops_w, op_w, binary_w, range_w, after_w, among_w, list_w, sign_w, call_w, paren_w, sub_w, exists_w, case_w, cased_w, when_w, cast_w, query_w, body_w, tail_w, row_w, select_w, parts_w, clause_w, group_w, cols_w, col_w, from_w, joins_w, on_w, source_w, sort_w, limit_w, command_w};
-ghost use Rattle.reader.specs.Laying.{Laid, Lays, Later, Passes, Does, Misfit, TooDeep, one, absences, name_at, literal_text, not_null_w, all_rows_w, is_bare, begins_join, FitLists, UnfitAt};
+ghost use Rattle.reader.specs.Laying.{Laid, Lays, Later, Does, Misfit, TooDeep, one, absences, name_at, literal_text, not_null_w, all_rows_w, is_bare, begins_join, FitLists, UnfitAt};
 ghost use Rattle.reader.specs.Turning.{swapped_at, Turned};
 ghost use Rattle.reader.specs.Likes.{greatest_like};
-ghost use Rattle.reader.specs.Bounds.{tokens, kinds_of, texts_of, queries_of, strength_asked, Asks, Ready, Seen, Within, Refuses, OneOn, Opens, NullBefore, got_of, refusal_of};
+ghost use Rattle.reader.specs.Bounds.{tokens, kinds_of, texts_of, queries_of, strength_asked, Shallow, Ready, Seen, Within, Refuses, OneOn, Opens, NullBefore, got_of, refusal_of};
 ghost use Rattle.reader.specs.Answers.{number, place, Few, Plain};
 ghost use Rattle.grammar.specs.Promise.{Lent, Reads};
 ghost use Rattle.grammar.specs.Sizes.{WIDTH};
 ghost use Rattle.kinds.specs.Strength.{strength_of, strength_table};
 
+use ask::Ask;
 use kinds::{
     ALL, AND, AS, ASC, BETWEEN, BITNOT, BLOB, BY, CASE, CAST, COLLATE, COMMA, CTIME_KW, DESC,
     DISTINCT, DOT, ELSE, END, EXISTS, FIRST, FLOAT, FROM, GROUP, HAVING, ID, IN, INDEXED, INTEGER,
@@ -55,47 +57,11 @@ const QUERIES: u32 = 16;
 
 pub const WIDTH: usize = 4;
 
-// Passed down as one number: the level of an expression that begins here, the queries open, the strength asked.
-const LEVEL: u32 = 512;
-
-const QUERY: u32 = 16;
-
-const OUTER: u32 = LEVEL;
-
-const TOO_DEEP: u32 = (LEVELS + 1) * LEVEL;
-
 // What a column asks: an expression, or name DOT STAR besides.
 const COLUMN: u32 = 0;
 
 // NOT stands where this strength or a looser one is asked: so right of every binary operator, and not of a sign.
 const NOT_STANDS: u32 = 10;
-
-fn asked(ask: u32) -> u32
-    ensures { result ≡ strength_asked ask }
-{
-    ask % QUERY
-}
-
-// The same place, another strength.
-fn asking(ask: u32, s: u32) -> u32
-    requires { Asks 66 ask × (s < 16) }
-    ensures { Asks 66 result × (strength_asked result ≡ s) × (result ≡ ask / 16 * 16 + s) × Passes (λ c. c) ask s result }
-{
-    ask / QUERY * QUERY + s
-}
-
-fn deeper(ask: u32, s: u32) -> u32
-    requires { Asks 65 ask × (s < 16) }
-    ensures { Asks 66 result × Passes deeper ask s result }
-{
-    asking(ask, s) + LEVEL
-}
-
-fn queries(ask: u32) -> u32
-    ensures { result ≡ queries_of ask }
-{
-    ask % LEVEL / QUERY
-}
 
 fn strength(lists: &Lists, kind: u32) -> u32
     ensures { result ≡ strength_of kind }
@@ -256,8 +222,8 @@ fn literal_text(lists: &Lists, at: u32, kind: u32) -> u32
 
 // Through a function of its own, which is taken into each caller: so the places of its answer are shared there, and frames are small.
 #[cycle(walk)]
-fn expr(lists: &Lists, nodes: &mut [u32], at: u32, made: u32, ask: u32) -> Step
-    requires { Ready 0 lists.now at made × Asks 66 ask }
+fn expr(lists: &Lists, nodes: &mut [u32], at: u32, made: u32, ask: Ask) -> Step
+    requires { Ready 0 lists.now at made }
     ensures { Within 1 0 lists.now at made result × ((s : ℕ) → Does s ask made nodes.old nodes.new lists.now (λ K T f c. expr_w K T f at c s) result) }
 {
     ex(lists, nodes, at, made, ask)
@@ -265,12 +231,12 @@ fn expr(lists: &Lists, nodes: &mut [u32], at: u32, made: u32, ask: u32) -> Step
 
 // An operand, and the operators that go on from it.
 #[cycle(walk)]
-fn ex(lists: &Lists, nodes: &mut [u32], at: u32, made: u32, ask: u32) -> Step
-    requires { Ready 0 lists.now at made × Asks 66 ask }
+fn ex(lists: &Lists, nodes: &mut [u32], at: u32, made: u32, ask: Ask) -> Step
+    requires { Ready 0 lists.now at made }
     ensures { Within 1 0 lists.now at made result × ((s : ℕ) → Does s ask made nodes.old nodes.new lists.now (λ K T f c. expr_w K T f at c s) result) }
 {
     let kind = peek(lists, at);
-    if ask >= TOO_DEEP {
+    if ask.level() > LEVELS {
         return too_deep(kind, at, ask);
     }
     let first = match kind {
@@ -284,8 +250,8 @@ fn ex(lists: &Lists, nodes: &mut [u32], at: u32, made: u32, ask: u32) -> Step
 }
 
 #[cycle(walk)]
-fn leaf(lists: &Lists, nodes: &mut [u32], at: u32, made: u32, kind: u32, ask: u32) -> Step
-    requires { Ready 0 lists.now at made × Asks 65 ask × (at < tokens lists.now) × Seen lists.now at kind × (0 < kind) × (kind ≤ 11) }
+fn leaf(lists: &Lists, nodes: &mut [u32], at: u32, made: u32, kind: u32, ask: Ask) -> Step
+    requires { Ready 0 lists.now at made × Shallow ask × (at < tokens lists.now) × Seen lists.now at kind × (0 < kind) × (kind ≤ 11) }
     ensures { Within 1 0 lists.now at made result × ((s : ℕ) → Does s ask made nodes.old nodes.new lists.now (λ K T f c. leaf_w K T f at c s) result) }
 {
     let code = kinds::literal_code(kind);
@@ -297,29 +263,29 @@ fn leaf(lists: &Lists, nodes: &mut [u32], at: u32, made: u32, kind: u32, ask: u3
     let next = peek(lists, at + 1);
     if next == LP {
         if kind != INDEXED {
-            return call(lists, nodes, at + 2, m, deeper(ask, 1));
+            return call(lists, nodes, at + 2, m, ask.deeper(1));
         }
     }
-    dotted(lists, nodes, at + 1, m, next, asked(ask))
+    dotted(lists, nodes, at + 1, m, next, ask.strength())
 }
 
 #[cycle(walk)]
-fn operand(lists: &Lists, nodes: &mut [u32], at: u32, made: u32, kind: u32, ask: u32) -> Step
-    requires { Ready 0 lists.now at made × Asks 65 ask × Seen lists.now at kind }
+fn operand(lists: &Lists, nodes: &mut [u32], at: u32, made: u32, kind: u32, ask: Ask) -> Step
+    requires { Ready 0 lists.now at made × Shallow ask × Seen lists.now at kind }
     ensures { Within 1 0 lists.now at made result × ((s : ℕ) → Does s ask made nodes.old nodes.new lists.now (λ K T f c. operand_w K T f at c s) result) }
 {
     match kind {
-        LP => paren(lists, nodes, at + 1, made, deeper(ask, 1)),
-        CASE => case(lists, nodes, at + 1, made, deeper(ask, 1)),
-        CAST => cast(lists, nodes, at + 1, made, deeper(ask, 1)),
-        EXISTS => exists(lists, nodes, at + 1, made, deeper(ask, 1)),
+        LP => paren(lists, nodes, at + 1, made, ask.deeper(1)),
+        CASE => case(lists, nodes, at + 1, made, ask.deeper(1)),
+        CAST => cast(lists, nodes, at + 1, made, ask.deeper(1)),
+        EXISTS => exists(lists, nodes, at + 1, made, ask.deeper(1)),
         NOT | PLUS | MINUS | BITNOT => sign(lists, nodes, at, made, kind, ask),
         _ => wrong(kind, at),
     }
 }
 
 // 5, but 3 goes before it.
-fn too_deep(kind: u32, at: u32, ask: u32) -> Step
+fn too_deep(kind: u32, at: u32, ask: Ask) -> Step
     requires { at < 65536 }
     ensures { Refuses at result × TooDeep kind (strength_asked ask) at result }
 {
@@ -327,7 +293,7 @@ fn too_deep(kind: u32, at: u32, ask: u32) -> Step
         return wrong(kind, at);
     }
     if kind == NOT {
-        if asked(ask) > NOT_STANDS {
+        if ask.strength() > NOT_STANDS {
             return wrong(kind, at);
         }
     }
@@ -353,12 +319,12 @@ fn ops(
     start: u32,
     base: u32,
     first: u32,
-    ask: u32,
+    ask: Ask,
 ) -> Step
-    requires { Ready 0 lists.now from start × Asks 65 ask × (base ≤ start) × (first ≤ 127) }
+    requires { Ready 0 lists.now from start × Shallow ask × (base ≤ start) × (first ≤ 127) }
     ensures { Within 0 0 lists.now from start result × ((s pre : ℕ) → start ≡ base + pre → Does s ask start nodes.old nodes.new lists.now (λ K T f c. ops_w K T f from c s first pre) result) }
 {
-    let s = asked(ask);
+    let s = ask.strength();
     let mut at = from;
     let mut made = start;
     let mut left = first;
@@ -374,7 +340,7 @@ fn ops(
         if left < k {
             break;
         }
-        let r = op(lists, nodes, at, made, base, kind, deeper(ask, k + 1));
+        let r = op(lists, nodes, at, made, base, kind, ask.deeper(k + 1));
         let Step::Got(said, _, d) = r else {
             return r;
         };
@@ -386,8 +352,8 @@ fn ops(
 }
 
 #[cycle(walk)]
-fn op(lists: &Lists, nodes: &mut [u32], at: u32, made: u32, base: u32, kind: u32, ask: u32) -> Step
-    requires { Ready 0 lists.now at made × Asks 66 ask × (base ≤ made) × Seen lists.now at kind × (0 < kind) }
+fn op(lists: &Lists, nodes: &mut [u32], at: u32, made: u32, base: u32, kind: u32, ask: Ask) -> Step
+    requires { Ready 0 lists.now at made × (base ≤ made) × Seen lists.now at kind × (0 < kind) }
     ensures { Within 1 0 lists.now at made result × ((s pre : ℕ) → made ≡ base + pre → Does s ask made nodes.old nodes.new lists.now (λ K T f c. op_w K T f at c s pre) result) }
 {
     if kind < NOT {
@@ -458,9 +424,9 @@ fn binary(
     made: u32,
     base: u32,
     detail: u32,
-    ask: u32,
+    ask: Ask,
 ) -> Step
-    requires { Ready 1 lists.now at made × Asks 66 ask × (base ≤ made) }
+    requires { Ready 1 lists.now at made × (base ≤ made) }
     ensures { Within 1 1 lists.now at made result × ((s pre : ℕ) → made ≡ base + pre → Does s ask made nodes.old nodes.new lists.now (λ K T f c. binary_w K T f at c s detail pre) result) }
 {
     let r = expr(lists, nodes, at, made, ask);
@@ -491,9 +457,9 @@ fn range(
     made: u32,
     base: u32,
     not: u32,
-    ask: u32,
+    ask: Ask,
 ) -> Step
-    requires { Ready 1 lists.now at made × Asks 66 ask × (base ≤ made) }
+    requires { Ready 1 lists.now at made × (base ≤ made) }
     ensures { Within 1 1 lists.now at made result × ((s pre : ℕ) → made ≡ base + pre → Does s ask made nodes.old nodes.new lists.now (λ K T f c. range_w K T f at c s not pre) result) }
 {
     let low = expr(lists, nodes, at, made, ask);
@@ -510,8 +476,8 @@ fn range(
 
 // A word, and an expression.
 #[cycle(walk)]
-fn after(lists: &Lists, nodes: &mut [u32], at: u32, made: u32, word: u32, ask: u32) -> Step
-    requires { Ready 0 lists.now at made × Asks 66 ask × (0 < word) }
+fn after(lists: &Lists, nodes: &mut [u32], at: u32, made: u32, word: u32, ask: Ask) -> Step
+    requires { Ready 0 lists.now at made × (0 < word) }
     ensures { Within 1 0 lists.now at made result × ((s : ℕ) → Does s ask made nodes.old nodes.new lists.now (λ K T f c. after_w K T f at word c s) result) }
 {
     let kind = peek(lists, at);
@@ -530,9 +496,9 @@ fn among(
     made: u32,
     base: u32,
     not: u32,
-    ask: u32,
+    ask: Ask,
 ) -> Step
-    requires { Ready 0 lists.now at made × Asks 66 ask × (base ≤ made) }
+    requires { Ready 0 lists.now at made × (base ≤ made) }
     ensures { Within 1 0 lists.now at made result × ((s pre : ℕ) → made ≡ base + pre → Does s ask made nodes.old nodes.new lists.now (λ K T f c. among_w K T f at c not pre) result) }
 {
     let lp = peek(lists, at);
@@ -542,7 +508,7 @@ fn among(
     let kind = peek(lists, at + 1);
     match kind {
         SELECT | VALUES => {
-            let q = query(lists, nodes, at + 1, made, asking(ask, 0));
+            let q = query(lists, nodes, at + 1, made, ask.with(0));
             let Step::Got(_, _, d) = q else {
                 return q;
             };
@@ -553,7 +519,7 @@ fn among(
             ended(lists, nodes, at + 1, m, base, 41, not)
         }
         _ => {
-            let l = list(lists, nodes, at + 1, made, asking(ask, 1));
+            let l = list(lists, nodes, at + 1, made, ask.with(1));
             let Step::Got(_, n_d, d) = l else {
                 return l;
             };
@@ -586,8 +552,8 @@ fn ended(
 
 // { expression , }: says how many.
 #[cycle(walk)]
-fn list(lists: &Lists, nodes: &mut [u32], from: u32, start: u32, ask: u32) -> Step
-    requires { Ready 0 lists.now from start × Asks 66 ask }
+fn list(lists: &Lists, nodes: &mut [u32], from: u32, start: u32, ask: Ask) -> Step
+    requires { Ready 0 lists.now from start }
     ensures { Within 1 0 lists.now from start result × Does 1 ask start nodes.old nodes.new lists.now (λ K T f c. list_w K T f from c 0) result }
 {
     let mut at = from;
@@ -611,17 +577,17 @@ fn list(lists: &Lists, nodes: &mut [u32], from: u32, start: u32, ask: u32) -> St
 }
 
 #[cycle(walk)]
-fn sign(lists: &Lists, nodes: &mut [u32], at: u32, made: u32, kind: u32, ask: u32) -> Step
-    requires { Ready 0 lists.now at made × Asks 65 ask × (at < tokens lists.now) × Seen lists.now at kind }
+fn sign(lists: &Lists, nodes: &mut [u32], at: u32, made: u32, kind: u32, ask: Ask) -> Step
+    requires { Ready 0 lists.now at made × Shallow ask × (at < tokens lists.now) × Seen lists.now at kind }
     ensures { Within 1 0 lists.now at made result × ((s : ℕ) → Does s ask made nodes.old nodes.new lists.now (λ K T f c. sign_w K T f at c s) result) }
 {
     let p = kinds::prefix(kind);
     if kind == NOT {
-        if asked(ask) > NOT_STANDS {
+        if ask.strength() > NOT_STANDS {
             return wrong(kind, at);
         }
     }
-    let r = expr(lists, nodes, at + 1, made, deeper(ask, p));
+    let r = expr(lists, nodes, at + 1, made, ask.deeper(p));
     let Step::Got(said, _, d) = r else {
         return r;
     };
@@ -671,8 +637,8 @@ fn dots(lists: &Lists, nodes: &mut [u32], at: u32, made: u32) -> Step
 
 // After LP of a call, whose name is the last record.
 #[cycle(walk)]
-fn call(lists: &Lists, nodes: &mut [u32], at: u32, made: u32, ask: u32) -> Step
-    requires { Ready 0 lists.now at made × Asks 66 ask }
+fn call(lists: &Lists, nodes: &mut [u32], at: u32, made: u32, ask: Ask) -> Step
+    requires { Ready 0 lists.now at made }
     ensures { Within 1 0 lists.now at made result × Does 1 ask made nodes.old nodes.new lists.now (λ K T f c. call_w K T f at c) result }
 {
     let kind = peek(lists, at);
@@ -730,8 +696,8 @@ fn called(
 
 // After LP: ( query ) or ( expressions ).
 #[cycle(walk)]
-fn paren(lists: &Lists, nodes: &mut [u32], at: u32, made: u32, ask: u32) -> Step
-    requires { Ready 4 lists.now at made × Asks 66 ask }
+fn paren(lists: &Lists, nodes: &mut [u32], at: u32, made: u32, ask: Ask) -> Step
+    requires { Ready 4 lists.now at made }
     ensures { Within 1 4 lists.now at made result × Does 1 ask made nodes.old nodes.new lists.now (λ K T f c. paren_w K T f at c) result }
 {
     let kind = peek(lists, at);
@@ -748,11 +714,11 @@ fn paren(lists: &Lists, nodes: &mut [u32], at: u32, made: u32, ask: u32) -> Step
 }
 
 #[cycle(walk)]
-fn sub(lists: &Lists, nodes: &mut [u32], at: u32, made: u32, code: u32, ask: u32) -> Step
-    requires { Ready 4 lists.now at made × Asks 66 ask }
+fn sub(lists: &Lists, nodes: &mut [u32], at: u32, made: u32, code: u32, ask: Ask) -> Step
+    requires { Ready 4 lists.now at made }
     ensures { Within 1 4 lists.now at made result × Does 1 ask made nodes.old nodes.new lists.now (λ K T f c. sub_w K T f at c code) result }
 {
-    let q = query(lists, nodes, at, made, asking(ask, 0));
+    let q = query(lists, nodes, at, made, ask.with(0));
     let Step::Got(_, _, d) = q else {
         return q;
     };
@@ -760,8 +726,8 @@ fn sub(lists: &Lists, nodes: &mut [u32], at: u32, made: u32, code: u32, ask: u32
 }
 
 #[cycle(walk)]
-fn exists(lists: &Lists, nodes: &mut [u32], at: u32, made: u32, ask: u32) -> Step
-    requires { Ready 0 lists.now at made × Asks 66 ask }
+fn exists(lists: &Lists, nodes: &mut [u32], at: u32, made: u32, ask: Ask) -> Step
+    requires { Ready 0 lists.now at made }
     ensures { Within 1 0 lists.now at made result × Does 1 ask made nodes.old nodes.new lists.now (λ K T f c. exists_w K T f at c) result }
 {
     let kind = peek(lists, at);
@@ -773,8 +739,8 @@ fn exists(lists: &Lists, nodes: &mut [u32], at: u32, made: u32, ask: u32) -> Ste
 
 // After CASE.
 #[cycle(walk)]
-fn case(lists: &Lists, nodes: &mut [u32], at: u32, made: u32, ask: u32) -> Step
-    requires { Ready 2 lists.now at made × Asks 66 ask }
+fn case(lists: &Lists, nodes: &mut [u32], at: u32, made: u32, ask: Ask) -> Step
+    requires { Ready 2 lists.now at made }
     ensures { Within 1 2 lists.now at made result × Does 1 ask made nodes.old nodes.new lists.now (λ K T f c. case_w K T f at c) result }
 {
     let b = cased(lists, nodes, at, made, ask);
@@ -798,8 +764,8 @@ fn case(lists: &Lists, nodes: &mut [u32], at: u32, made: u32, ask: u32) -> Step
 }
 
 #[cycle(walk)]
-fn cased(lists: &Lists, nodes: &mut [u32], at: u32, made: u32, ask: u32) -> Step
-    requires { Ready 1 lists.now at made × Asks 66 ask }
+fn cased(lists: &Lists, nodes: &mut [u32], at: u32, made: u32, ask: Ask) -> Step
+    requires { Ready 1 lists.now at made }
     ensures { Within 0 1 lists.now at made result × Does 1 ask made nodes.old nodes.new lists.now (λ K T f c. cased_w K T f at c) result }
 {
     let kind = peek(lists, at);
@@ -812,8 +778,8 @@ fn cased(lists: &Lists, nodes: &mut [u32], at: u32, made: u32, ask: u32) -> Step
 
 // WHEN expression THEN expression, once or more: says how many expressions.
 #[cycle(walk)]
-fn when(lists: &Lists, nodes: &mut [u32], from: u32, start: u32, ask: u32) -> Step
-    requires { Ready 0 lists.now from start × Asks 66 ask }
+fn when(lists: &Lists, nodes: &mut [u32], from: u32, start: u32, ask: Ask) -> Step
+    requires { Ready 0 lists.now from start }
     ensures { Within 1 0 lists.now from start result × Does 1 ask start nodes.old nodes.new lists.now (λ K T f c. when_w K T f from c 0) result }
 {
     let mut at = from;
@@ -841,8 +807,8 @@ fn when(lists: &Lists, nodes: &mut [u32], from: u32, start: u32, ask: u32) -> St
 
 // After CAST.
 #[cycle(walk)]
-fn cast(lists: &Lists, nodes: &mut [u32], at: u32, made: u32, ask: u32) -> Step
-    requires { Ready 0 lists.now at made × Asks 66 ask }
+fn cast(lists: &Lists, nodes: &mut [u32], at: u32, made: u32, ask: Ask) -> Step
+    requires { Ready 0 lists.now at made }
     ensures { Within 1 0 lists.now at made result × Does 1 ask made nodes.old nodes.new lists.now (λ K T f c. cast_w K T f at c) result }
 {
     let e = after(lists, nodes, at, made, LP, ask);
@@ -863,15 +829,15 @@ fn cast(lists: &Lists, nodes: &mut [u32], at: u32, made: u32, ask: u32) -> Step
 // ---- queries
 
 #[cycle(walk)]
-fn query(lists: &Lists, nodes: &mut [u32], at: u32, made: u32, ask: u32) -> Step
-    requires { Ready 4 lists.now at made × Asks 66 ask × (strength_asked ask ≡ 0) }
+fn query(lists: &Lists, nodes: &mut [u32], at: u32, made: u32, ask: Ask) -> Step
+    requires { Ready 4 lists.now at made × (strength_asked ask ≡ 0) }
     ensures { Within 1 4 lists.now at made result × Does 0 ask made nodes.old nodes.new lists.now (λ K T f c. query_w K T f at c) result }
 {
     let b = body(lists, nodes, at, made, ask);
     let Step::Got(_, _, c) = b else {
         return b;
     };
-    let t = tail(lists, nodes, c.at, c.made, ask + QUERY + 1);
+    let t = tail(lists, nodes, c.at, c.made, ask.opened());
     let Step::Got(_, _, d) = t else {
         return t;
     };
@@ -880,30 +846,30 @@ fn query(lists: &Lists, nodes: &mut [u32], at: u32, made: u32, ask: u32) -> Step
 }
 
 #[cycle(walk)]
-fn body(lists: &Lists, nodes: &mut [u32], at: u32, made: u32, ask: u32) -> Step
-    requires { Ready 0 lists.now at made × Asks 66 ask × (strength_asked ask ≡ 0) }
+fn body(lists: &Lists, nodes: &mut [u32], at: u32, made: u32, ask: Ask) -> Step
+    requires { Ready 0 lists.now at made × (strength_asked ask ≡ 0) }
     ensures { Within 1 0 lists.now at made result × Opens ask result × Does 0 ask made nodes.old nodes.new lists.now (λ K T f c. body_w K T f at c) result }
 {
     let kind = peek(lists, at);
     if kind == SELECT {
-        if queries(ask) >= QUERIES {
+        if ask.queries() >= QUERIES {
             return Step::Refused(Reason::TooManyQueries, at as u16);
         }
-        return select(lists, nodes, at + 1, made, ask + QUERY + 1);
+        return select(lists, nodes, at + 1, made, ask.opened());
     }
     if kind == VALUES {
-        if queries(ask) >= QUERIES {
+        if ask.queries() >= QUERIES {
             return Step::Refused(Reason::TooManyQueries, at as u16);
         }
-        return rows(lists, nodes, at + 1, made, ask + QUERY + 1);
+        return rows(lists, nodes, at + 1, made, ask.opened());
     }
     wrong(kind, at)
 }
 
 // ORDER BY and LIMIT.
 #[cycle(walk)]
-fn tail(lists: &Lists, nodes: &mut [u32], at: u32, made: u32, ask: u32) -> Step
-    requires { Ready 3 lists.now at made × Asks 66 ask }
+fn tail(lists: &Lists, nodes: &mut [u32], at: u32, made: u32, ask: Ask) -> Step
+    requires { Ready 3 lists.now at made }
     ensures { Within 0 3 lists.now at made result × Does 1 ask made nodes.old nodes.new lists.now (λ K T f c. tail_w K T f at c) result }
 {
     let kind = peek(lists, at);
@@ -928,8 +894,8 @@ fn tail(lists: &Lists, nodes: &mut [u32], at: u32, made: u32, ask: u32) -> Step
 
 // After VALUES: rows of one length.
 #[cycle(walk)]
-fn rows(lists: &Lists, nodes: &mut [u32], from: u32, base: u32, ask: u32) -> Step
-    requires { Ready 1 lists.now from base × Asks 66 ask }
+fn rows(lists: &Lists, nodes: &mut [u32], from: u32, base: u32, ask: Ask) -> Step
+    requires { Ready 1 lists.now from base }
     ensures { Within 1 1 lists.now from base result × Does 1 ask base nodes.old nodes.new lists.now (λ K T f c. all_rows_w K T f from c) result }
 {
     let mut at = from;
@@ -957,8 +923,8 @@ fn rows(lists: &Lists, nodes: &mut [u32], from: u32, base: u32, ask: u32) -> Ste
 
 // ( expressions ), as many as `width` unless that is 0: says how many.
 #[cycle(walk)]
-fn row(lists: &Lists, nodes: &mut [u32], at: u32, made: u32, width: u32, ask: u32) -> Step
-    requires { Ready 0 lists.now at made × Asks 66 ask }
+fn row(lists: &Lists, nodes: &mut [u32], at: u32, made: u32, width: u32, ask: Ask) -> Step
+    requires { Ready 0 lists.now at made }
     ensures { Within 1 0 lists.now at made result × Does 1 ask made nodes.old nodes.new lists.now (λ K T f c. row_w K T f at c width) result }
 {
     let lp = peek(lists, at);
@@ -985,8 +951,8 @@ fn row(lists: &Lists, nodes: &mut [u32], at: u32, made: u32, width: u32, ask: u3
 
 // After SELECT.
 #[cycle(walk)]
-fn select(lists: &Lists, nodes: &mut [u32], at: u32, made: u32, ask: u32) -> Step
-    requires { Ready 8 lists.now at made × Asks 66 ask }
+fn select(lists: &Lists, nodes: &mut [u32], at: u32, made: u32, ask: Ask) -> Step
+    requires { Ready 8 lists.now at made }
     ensures { Within 1 8 lists.now at made result × Does 1 ask made nodes.old nodes.new lists.now (λ K T f c. select_w K T f at c) result }
 {
     let kind = peek(lists, at);
@@ -1011,8 +977,8 @@ fn select(lists: &Lists, nodes: &mut [u32], at: u32, made: u32, ask: u32) -> Ste
 
 // FROM, WHERE, GROUP BY, HAVING.
 #[cycle(walk)]
-fn parts(lists: &Lists, nodes: &mut [u32], at: u32, made: u32, ask: u32) -> Step
-    requires { Ready 4 lists.now at made × Asks 66 ask }
+fn parts(lists: &Lists, nodes: &mut [u32], at: u32, made: u32, ask: Ask) -> Step
+    requires { Ready 4 lists.now at made }
     ensures { Within 0 4 lists.now at made result × Does 1 ask made nodes.old nodes.new lists.now (λ K T f c. parts_w K T f at c) result }
 {
     let kind = peek(lists, at);
@@ -1037,8 +1003,8 @@ fn parts(lists: &Lists, nodes: &mut [u32], at: u32, made: u32, ask: u32) -> Step
 
 // An optional clause of a word and an expression.
 #[cycle(walk)]
-fn clause(lists: &Lists, nodes: &mut [u32], at: u32, made: u32, word: u32, ask: u32) -> Step
-    requires { Ready 1 lists.now at made × Asks 66 ask × (0 < word) }
+fn clause(lists: &Lists, nodes: &mut [u32], at: u32, made: u32, word: u32, ask: Ask) -> Step
+    requires { Ready 1 lists.now at made × (0 < word) }
     ensures { Within 0 1 lists.now at made result × Does 1 ask made nodes.old nodes.new lists.now (λ K T f c. clause_w K T f at word c) result }
 {
     let kind = peek(lists, at);
@@ -1051,8 +1017,8 @@ fn clause(lists: &Lists, nodes: &mut [u32], at: u32, made: u32, word: u32, ask: 
 
 // GROUP BY and HAVING.
 #[cycle(walk)]
-fn group(lists: &Lists, nodes: &mut [u32], at: u32, made: u32, ask: u32) -> Step
-    requires { Ready 2 lists.now at made × Asks 66 ask }
+fn group(lists: &Lists, nodes: &mut [u32], at: u32, made: u32, ask: Ask) -> Step
+    requires { Ready 2 lists.now at made }
     ensures { Within 0 2 lists.now at made result × Does 1 ask made nodes.old nodes.new lists.now (λ K T f c. group_w K T f at c) result }
 {
     let kind = peek(lists, at);
@@ -1082,8 +1048,8 @@ fn group(lists: &Lists, nodes: &mut [u32], at: u32, made: u32, ask: u32) -> Step
 
 // Says how many.
 #[cycle(walk)]
-fn cols(lists: &Lists, nodes: &mut [u32], from: u32, base: u32, ask: u32) -> Step
-    requires { Ready 2 lists.now from base × Asks 66 ask }
+fn cols(lists: &Lists, nodes: &mut [u32], from: u32, base: u32, ask: Ask) -> Step
+    requires { Ready 2 lists.now from base }
     ensures { Within 1 2 lists.now from base result × Does 1 ask base nodes.old nodes.new lists.now (λ K T f c. cols_w K T f from c 0) result }
 {
     let mut at = from;
@@ -1107,8 +1073,8 @@ fn cols(lists: &Lists, nodes: &mut [u32], from: u32, base: u32, ask: u32) -> Ste
 }
 
 #[cycle(walk)]
-fn col(lists: &Lists, nodes: &mut [u32], at: u32, made: u32, ask: u32) -> Step
-    requires { Ready 2 lists.now at made × Asks 66 ask }
+fn col(lists: &Lists, nodes: &mut [u32], at: u32, made: u32, ask: Ask) -> Step
+    requires { Ready 2 lists.now at made }
     ensures { Within 1 2 lists.now at made result × Does 1 ask made nodes.old nodes.new lists.now (λ K T f c. col_w K T f at c) result }
 {
     let kind = peek(lists, at);
@@ -1116,7 +1082,7 @@ fn col(lists: &Lists, nodes: &mut [u32], at: u32, made: u32, ask: u32) -> Step
         let m = emit(nodes, made, 5, 0, 0, 1);
         return got(at + 1, m, 0);
     }
-    let r = expr(lists, nodes, at, made, asking(ask, COLUMN));
+    let r = expr(lists, nodes, at, made, ask.with(COLUMN));
     let Step::Got(s_d, _, d) = r else {
         return r;
     };
@@ -1162,8 +1128,8 @@ fn renamed(lists: &Lists, nodes: &mut [u32], at: u32, made: u32, kind: u32) -> S
 }
 
 #[cycle(walk)]
-fn from(lists: &Lists, nodes: &mut [u32], at: u32, made: u32, kind: u32, ask: u32) -> Step
-    requires { Ready 1 lists.now at made × Asks 66 ask × Seen lists.now at kind }
+fn from(lists: &Lists, nodes: &mut [u32], at: u32, made: u32, kind: u32, ask: Ask) -> Step
+    requires { Ready 1 lists.now at made × Seen lists.now at kind }
     ensures { Within 0 1 lists.now at made result × Does 1 ask made nodes.old nodes.new lists.now (λ K T f c. from_w K T f at c) result }
 {
     if kind != FROM {
@@ -1184,8 +1150,8 @@ fn from(lists: &Lists, nodes: &mut [u32], at: u32, made: u32, kind: u32, ask: u3
 
 // Says how many.
 #[cycle(walk)]
-fn joins(lists: &Lists, nodes: &mut [u32], from: u32, start: u32, ask: u32) -> Step
-    requires { Ready 0 lists.now from start × Asks 66 ask }
+fn joins(lists: &Lists, nodes: &mut [u32], from: u32, start: u32, ask: Ask) -> Step
+    requires { Ready 0 lists.now from start }
     ensures { Within 0 0 lists.now from start result × Does 1 ask start nodes.old nodes.new lists.now (λ K T f c. joins_w K T f from c 0) result }
 {
     let mut at = from;
@@ -1258,8 +1224,8 @@ fn joined(lists: &Lists, from: u32, first: u32) -> Step
 
 // ON or USING, or nothing.
 #[cycle(walk)]
-fn on(lists: &Lists, nodes: &mut [u32], at: u32, made: u32, ask: u32) -> Step
-    requires { Ready 1 lists.now at made × Asks 66 ask }
+fn on(lists: &Lists, nodes: &mut [u32], at: u32, made: u32, ask: Ask) -> Step
+    requires { Ready 1 lists.now at made }
     ensures { Within 0 1 lists.now at made result × Does 1 ask made nodes.old nodes.new lists.now (λ K T f c. on_w K T f at c) result }
 {
     let kind = peek(lists, at);
@@ -1311,8 +1277,8 @@ fn using(lists: &Lists, nodes: &mut [u32], from: u32, base: u32) -> Step
 
 // As `expr`.
 #[cycle(walk)]
-fn source(lists: &Lists, nodes: &mut [u32], at: u32, made: u32, ask: u32) -> Step
-    requires { Ready 4 lists.now at made × Asks 66 ask }
+fn source(lists: &Lists, nodes: &mut [u32], at: u32, made: u32, ask: Ask) -> Step
+    requires { Ready 4 lists.now at made }
     ensures { Within 1 4 lists.now at made result × Does 1 ask made nodes.old nodes.new lists.now (λ K T f c. source_w K T f at c) result }
 {
     src(lists, nodes, at, made, ask)
@@ -1320,15 +1286,15 @@ fn source(lists: &Lists, nodes: &mut [u32], at: u32, made: u32, ask: u32) -> Ste
 
 // A table, or a query in brackets.
 #[cycle(walk)]
-fn src(lists: &Lists, nodes: &mut [u32], at: u32, made: u32, ask: u32) -> Step
-    requires { Ready 4 lists.now at made × Asks 66 ask }
+fn src(lists: &Lists, nodes: &mut [u32], at: u32, made: u32, ask: Ask) -> Step
+    requires { Ready 4 lists.now at made }
     ensures { Within 1 4 lists.now at made result × Does 1 ask made nodes.old nodes.new lists.now (λ K T f c. source_w K T f at c) result }
 {
     let kind = peek(lists, at);
     if kind != LP {
         return table(lists, nodes, at, made);
     }
-    let q = query(lists, nodes, at + 1, made, asking(ask, 0));
+    let q = query(lists, nodes, at + 1, made, ask.with(0));
     let Step::Got(_, _, c) = q else {
         return q;
     };
@@ -1430,8 +1396,8 @@ fn index(lists: &Lists, nodes: &mut [u32], at: u32, made: u32) -> Step
 
 // After ORDER.
 #[cycle(walk)]
-fn sort(lists: &Lists, nodes: &mut [u32], from: u32, base: u32, ask: u32) -> Step
-    requires { Ready 0 lists.now from base × Asks 66 ask }
+fn sort(lists: &Lists, nodes: &mut [u32], from: u32, base: u32, ask: Ask) -> Step
+    requires { Ready 0 lists.now from base }
     ensures { Within 1 0 lists.now from base result × Does 1 ask base nodes.old nodes.new lists.now (λ K T f c. sort_w K T f from c) result }
 {
     let by = peek(lists, from);
@@ -1493,8 +1459,8 @@ fn nulls(lists: &Lists, at: u32, detail: u8) -> Step
 }
 
 #[cycle(walk)]
-fn limit(lists: &Lists, nodes: &mut [u32], at: u32, made: u32, ask: u32) -> Step
-    requires { Ready 2 lists.now at made × Asks 66 ask }
+fn limit(lists: &Lists, nodes: &mut [u32], at: u32, made: u32, ask: Ask) -> Step
+    requires { Ready 2 lists.now at made }
     ensures { Within 0 2 lists.now at made result × Does 1 ask made nodes.old nodes.new lists.now (λ K T f c. limit_w K T f at c) result }
 {
     let kind = peek(lists, at);
@@ -1609,7 +1575,7 @@ fn command(lists: &Lists, nodes: &mut [u32]) -> Step
     requires { Ready 4 lists.now 0 0 }
     ensures { Within 1 4 lists.now 0 0 result × Later (λ f. Lays 0 nodes.old nodes.new lists.now (λ K T. command_w K T f) result) }
 {
-    let q = query(lists, nodes, 0, 0, OUTER);
+    let q = query(lists, nodes, 0, 0, Ask::outermost());
     let Step::Got(_, _, c) = q else {
         return q;
     };

@@ -1,9 +1,9 @@
 -- The reader's functions that call each other, one cycle: each promises its bounds and its walk (specs/Laying.antt), made from its callees'
 -- by the laws of proofs/Laying.antt. Function by function; a goal that has no answer here the check proves by itself. Assumes nothing.
-use Rattle.reader.proofs.Steps.{further, refused, ended, got_in, passed_on, opened, opening, opens_refused, one_on, same_answer, null_before, seen_as, opens_in}
+use Rattle.reader.proofs.Steps.{further, refused, ended, got_in, passed_on, opened, opens_refused, one_on, same_answer, null_before, seen_as, opens_in}
 use native.Mathlib.Omega.{arith}
 use Prim.Native.Nat.{◌+◌, ◌<◌, ◌≤◌}
-use Rattle.reader.proofs.Laying.{took, left, misfit, next, at_once, is, isn't, goes, halts, topped, by_kind, laid, capped, halted, said, query_opened, queries_of_lem, by_walk, two_ways, ◌also◌, behind, loop_start, for_any, laid_joined, so, strength_of, differs, filled_as, no_left, no_right, closed, at_second, laid_as}
+use Rattle.reader.proofs.Laying.{took, left, misfit, next, at_once, is, isn't, goes, halts, topped, by_kind, laid, capped, halted, said, queries_of_lem, by_walk, two_ways, ◌also◌, behind, loop_start, for_any, laid_joined, so, strength_of, differs, filled_as, no_left, no_right, closed, at_second, laid_as}
 use Rattle.descent.proofs.Walk.{expr_w, leaf_w, operand_w, deeper, dotted_w, not_b}
 use Rattle.reader.specs.Laying.{one, is_bare, absences, Laid, Later, begins_join, literal_text}
 use Rattle.reader.proofs.KindTests.{between_in, between_out, bare_either, bare_neither, distinct_walk, deep_walk, indexed_heads_none, heads_call_lem, Sign, sign_is, no_sign, ops_walk, ops_goes, no_parts, select_walk, prefix_walk, no_tail}
@@ -11,7 +11,7 @@ use Rattle.theory.specs.Table.{both}
 use mathlib.Core.Path.{ap, refl, sym, ◌∙◌, ap₂}
 use mathlib.Core.Logic.{inl, inr}
 use lib.Dec.{leb, eqb, ltb}
-use Rattle.reader.specs.Bounds.{Asks, queries_of, kinds_of, texts_of, Within, Seen, got_of}
+use Rattle.reader.specs.Bounds.{kinds_of, texts_of, Within, Seen, got_of}
 use Rattle.theory.proofs.Cases.{le-leb, eqb-true, both_i}
 use borrow.Author.Tests.{lt-leb, ne_eqb, lt-ltb, le-ltb}
 use Rattle.kinds.specs.Kinds.{STAR}
@@ -26,7 +26,7 @@ use Rattle.kinds.specs.Strength.{prefix_of}
 use Rattle.reader.proofs.Tables.{strength_is}
 use Rattle.kinds.proofs.Small.{strength_small, prefix_small}
 use Rattle.reader.proofs.+walk.Goals as goal
-use Rattle.reader.proofs.+walk.Goals.{call-else-kind-eq-DISTINCT, call-then-kind-eq-DISTINCT, ex-in-1-to-11, ex-in_default, ex-in_default-via-else-kind-lt1+else-kind-lt12, ex-in_default-via-then-kind-lt1, leaf-else-next-eq-LP, leaf-then-next-eq-LP+else-kind-ne-INDEXED, op-else-kind-eq-NOT, op-else-kind-eq-NOT-2, op-else-peek-eq-NOT, op-then-kind-eq-NOT, op-then-kind-eq-NOT-2, op-then-peek-eq-NOT, operand-in-27-1, operand-in_default+else-kind-lt18+then-kind-lt20, ops-else-k-eq0+else-k-s+then-left-k, ops-else-k-eq0+then-k-s, ops-then-k-eq0, row-else-width-gt0, row-then-width-gt0+else-n-width, select-else-detail-gt0, select-in-54, select-in-55, select-in_default, select-then-detail-gt0, sign-else-kind-eq-NOT, sign-then-kind-eq-NOT+else-asked-gt-NOT_STANDS}
+use Rattle.reader.proofs.+walk.Goals.{call-else-kind-eq-DISTINCT, call-then-kind-eq-DISTINCT, ex-in-1-to-11, ex-in_default, ex-in_default-via-else-kind-lt1+else-kind-lt12, ex-in_default-via-then-kind-lt1, leaf-else-next-eq-LP, leaf-then-next-eq-LP+else-kind-ne-INDEXED, op-else-kind-eq-NOT, op-else-kind-eq-NOT-2, op-else-peek-eq-NOT, op-then-kind-eq-NOT, op-then-kind-eq-NOT-2, op-then-peek-eq-NOT, operand-in-27-1, operand-in_default+else-kind-lt18+then-kind-lt20, ops-else-k-eq0+else-k-s+then-left-k, ops-else-k-eq0+then-k-s, ops-then-k-eq0, row-else-width-gt0, row-then-width-gt0+else-n-width, select-else-detail-gt0, select-in-54, select-in-55, select-in_default, select-then-detail-gt0, sign-else-kind-eq-NOT, sign-then-kind-eq-NOT+else-strength-gt-NOT_STANDS}
 
 -- ── after ──
 pub after-wrong-requires : goal.after-wrong-requires
@@ -69,15 +69,12 @@ among-ended-requires t c = omega (arith, c.requires, c.emit-m.ensures.0, c.peek-
 pub among-overflow_add-at-in-52 : goal.among-overflow_add-at-in-52
 among-overflow_add-at-in-52 t c = omega arith
 
-pub among-asking-requires : goal.among-asking-requires
-among-asking-requires t c = omega arith
-
 pub among-query-q-requires : goal.among-query-q-requires
 among-query-q-requires t c = omega (arith, c.requires, c.in-52.if-kind-lt54-own.true, c.in-52.if-kind-lt52-own.false, c.peek-kind.ensures, c.if-lp-ne-LP.false, c.peek-lp.ensures)
 
 pub among-returns-in_default-q : goal.among-returns-in_default-q
 unfolding expr_w both
-among-returns-in_default-q t c = (passed_on c.query-q.ensures.0 c.in_default-q.is, λ s pre b. record { does = λ a p. next (c.query-q.ensures.1.does a (c.asking.ensures.3.packs a s p)) (λ f h. took _ _ _ (is c.peek-lp.ensures c.if-lp-ne-LP.false) (took _ _ _ (by_kind (λ z. both (leb 52 z) (leb z 53)) c.peek-kind.ensures (between_in 52 53 c.peek-kind.result (omega (arith, c.in-52.if-kind-lt52-own.false)) (omega (arith, c.in-52.if-kind-lt54-own.true)))) (halts _ _ h c.in_default-q.is))) })
+among-returns-in_default-q t c = (passed_on c.query-q.ensures.0 c.in_default-q.is, λ s pre b. record { does = λ a p. next (c.query-q.ensures.1.does a (c.with.ensures.2.packs a s p)) (λ f h. took _ _ _ (is c.peek-lp.ensures c.if-lp-ne-LP.false) (took _ _ _ (by_kind (λ z. both (leb 52 z) (leb z 53)) c.peek-kind.ensures (between_in 52 53 c.peek-kind.result (omega (arith, c.in-52.if-kind-lt52-own.false)) (omega (arith, c.in-52.if-kind-lt54-own.true)))) (halts _ _ h c.in_default-q.is))) })
 
 pub among-ended-requires-in-52 : goal.among-ended-requires-in-52
 among-ended-requires-in-52 t c = omega (arith, got_in c.query-q.ensures.0 c.in-Got.is, c.requires, c.in-52.if-kind-lt54-own.true, c.in-52.if-kind-lt52-own.false, c.peek-kind.ensures, c.if-lp-ne-LP.false, c.peek-lp.ensures)
@@ -85,15 +82,12 @@ among-ended-requires-in-52 t c = omega (arith, got_in c.query-q.ensures.0 c.in-G
 pub among-overflow_add-at-in_default : goal.among-overflow_add-at-in_default
 among-overflow_add-at-in_default t c = omega arith
 
-pub among-asking-requires-in_default : goal.among-asking-requires-in_default
-among-asking-requires-in_default t c = omega arith
-
 pub among-list-l-requires : goal.among-list-l-requires
 among-list-l-requires t c = omega arith
 
 pub among-returns-in_default-l : goal.among-returns-in_default-l
 unfolding expr_w both
-among-returns-in_default-l t c = (passed_on c.list-l.ensures.0 c.in_default-l.is, λ s pre b. record { does = λ a p. next (c.list-l.ensures.1.does a (c.asking-in_default.ensures.3.packs a s p)) (λ f h. took _ _ _ (is c.peek-lp.ensures c.if-lp-ne-LP.false) (left _ _ _ (by_kind (λ z. both (leb 52 z) (leb z 53)) c.peek-kind.ensures (between_out 52 53 c.peek-kind.result (λ z. omega (arith, z)))) (left _ _ _ (isn't c.peek-kind.ensures c.in_default-1.rest.1) (halts _ _ h c.in_default-l.is)))) })
+among-returns-in_default-l t c = (passed_on c.list-l.ensures.0 c.in_default-l.is, λ s pre b. record { does = λ a p. next (c.list-l.ensures.1.does a (c.with-in_default.ensures.2.packs a s p)) (λ f h. took _ _ _ (is c.peek-lp.ensures c.if-lp-ne-LP.false) (left _ _ _ (by_kind (λ z. both (leb 52 z) (leb z 53)) c.peek-kind.ensures (between_out 52 53 c.peek-kind.result (λ z. omega (arith, z)))) (left _ _ _ (isn't c.peek-kind.ensures c.in_default-1.rest.1) (halts _ _ h c.in_default-l.is)))) })
 
 pub among-overflow_cast-n_d : goal.among-overflow_cast-n_d
 among-overflow_cast-n_d t c = omega (arith, got_in c.list-l.ensures.0 c.in-Got-l.is, c.requires, c.peek-kind.ensures, c.if-lp-ne-LP.false, c.peek-lp.ensures)
@@ -116,11 +110,11 @@ among-returns-in-13 t c = (further c.ended.ensures.0 (omega (arith, c.requires, 
 
 pub among-returns-in-Got : goal.among-returns-in-Got
 unfolding expr_w both
-among-returns-in-Got t c = (further c.ended-in-52.ensures.0 (omega (arith, got_in c.query-q.ensures.0 c.in-Got.is, c.requires, c.in-52.if-kind-lt54-own.true, c.in-52.if-kind-lt52-own.false, c.peek-kind.ensures, c.if-lp-ne-LP.false, c.peek-lp.ensures)), λ s pre b. record { does = λ a p. next (c.query-q.ensures.1.does a (c.asking.ensures.3.packs a s p)) (λ f h. took _ _ _ (is c.peek-lp.ensures c.if-lp-ne-LP.false) (took _ _ _ (by_kind (λ z. both (leb 52 z) (leb z 53)) c.peek-kind.ensures (between_in 52 53 c.peek-kind.result (omega (arith, c.in-52.if-kind-lt52-own.false)) (omega (arith, c.in-52.if-kind-lt54-own.true)))) (goes _ _ h c.in-Got.is (λ rs F. c.ended-in-52.ensures.1 pre _ _ rs b F)))) })
+among-returns-in-Got t c = (further c.ended-in-52.ensures.0 (omega (arith, got_in c.query-q.ensures.0 c.in-Got.is, c.requires, c.in-52.if-kind-lt54-own.true, c.in-52.if-kind-lt52-own.false, c.peek-kind.ensures, c.if-lp-ne-LP.false, c.peek-lp.ensures)), λ s pre b. record { does = λ a p. next (c.query-q.ensures.1.does a (c.with.ensures.2.packs a s p)) (λ f h. took _ _ _ (is c.peek-lp.ensures c.if-lp-ne-LP.false) (took _ _ _ (by_kind (λ z. both (leb 52 z) (leb z 53)) c.peek-kind.ensures (between_in 52 53 c.peek-kind.result (omega (arith, c.in-52.if-kind-lt52-own.false)) (omega (arith, c.in-52.if-kind-lt54-own.true)))) (goes _ _ h c.in-Got.is (λ rs F. c.ended-in-52.ensures.1 pre _ _ rs b F)))) })
 
 pub among-returns-in-Got-l : goal.among-returns-in-Got-l
 unfolding expr_w both
-among-returns-in-Got-l t c = (further c.ended-in_default.ensures.0 (omega (arith, got_in c.list-l.ensures.0 c.in-Got-l.is, c.requires, c.emit-m-in_default.ensures.0, c.peek-kind.ensures, c.if-lp-ne-LP.false, c.peek-lp.ensures)), λ s pre b. record { does = λ a p. next (c.list-l.ensures.1.does a (c.asking-in_default.ensures.3.packs a s p)) (λ f h. took _ _ _ (is c.peek-lp.ensures c.if-lp-ne-LP.false) (left _ _ _ (by_kind (λ z. both (leb 52 z) (leb z 53)) c.peek-kind.ensures (between_out 52 53 c.peek-kind.result (λ z. omega (arith, z)))) (left _ _ _ (isn't c.peek-kind.ensures c.in_default-1.rest.1) (goes _ _ h c.in-Got-l.is (λ rs F. c.ended-in_default.ensures.1 pre _ _ _ b (topped F c.emit-m-in_default.ensures.1)))))) })
+among-returns-in-Got-l t c = (further c.ended-in_default.ensures.0 (omega (arith, got_in c.list-l.ensures.0 c.in-Got-l.is, c.requires, c.emit-m-in_default.ensures.0, c.peek-kind.ensures, c.if-lp-ne-LP.false, c.peek-lp.ensures)), λ s pre b. record { does = λ a p. next (c.list-l.ensures.1.does a (c.with-in_default.ensures.2.packs a s p)) (λ f h. took _ _ _ (is c.peek-lp.ensures c.if-lp-ne-LP.false) (left _ _ _ (by_kind (λ z. both (leb 52 z) (leb z 53)) c.peek-kind.ensures (between_out 52 53 c.peek-kind.result (λ z. omega (arith, z)))) (left _ _ _ (isn't c.peek-kind.ensures c.in_default-1.rest.1) (goes _ _ h c.in-Got-l.is (λ rs F. c.ended-in_default.ensures.1 pre _ _ _ b (topped F c.emit-m-in_default.ensures.1)))))) })
 
 -- ── binary ──
 pub binary-expr-r-requires : goal.binary-expr-r-requires
@@ -154,18 +148,9 @@ body-returns-then-queries-ge-QUERIES t c = (record { holds = omega arith }, reco
 pub body-overflow_add-at : goal.body-overflow_add-at
 body-overflow_add-at t c = omega arith
 
-pub body-overflow_add-ask : goal.body-overflow_add-ask
-body-overflow_add-ask t c = omega arith
-
-pub body-overflow_add-ask-then-kind-eq-SELECT : goal.body-overflow_add-ask-then-kind-eq-SELECT
-body-overflow_add-ask-then-kind-eq-SELECT t c = omega arith
-
-pub body-select-requires : goal.body-select-requires
-body-select-requires t c = let q : queries_of c.args.ask < 16 = omega arith in let o : Asks 66 (c.args.ask + 16 + 1) = opening _ c.requires.1 c.requires.2 q in omega (arith)
-
 pub body-returns-then-kind-eq-SELECT : goal.body-returns-then-kind-eq-SELECT
 unfolding expr_w
-body-returns-then-kind-eq-SELECT t c = (further c.select.ensures.0 (omega (arith)), opened (omega arith), record { does = λ a p. next (c.select.ensures.1.does _ (query_opened p refl (omega (arith, queries_of_lem p, c.queries.ensures, c.if-queries-ge-QUERIES.false)))) (λ f h. took _ _ _ (is c.peek-kind.ensures c.if-kind-eq-SELECT.true) (left _ _ _ (lt-leb 16 a.opened (omega (arith, queries_of_lem p, c.queries.ensures, c.if-queries-ge-QUERIES.false))) h)) })
+body-returns-then-kind-eq-SELECT t c = (further c.select.ensures.0 (omega (arith)), opened (omega arith), record { does = λ a p. next (c.select.ensures.1.does _ (c.opened.ensures.opens _ p (omega (arith, queries_of_lem p, c.queries.ensures, c.if-queries-ge-QUERIES.false)))) (λ f h. took _ _ _ (is c.peek-kind.ensures c.if-kind-eq-SELECT.true) (left _ _ _ (lt-leb 16 a.opened (omega (arith, queries_of_lem p, c.queries.ensures, c.if-queries-ge-QUERIES.false))) h)) })
 
 pub body-overflow_cast-result-then-queries-ge-QUERIES-2 : goal.body-overflow_cast-result-then-queries-ge-QUERIES-2
 body-overflow_cast-result-then-queries-ge-QUERIES-2 t c = omega arith
@@ -177,18 +162,9 @@ body-returns-then-queries-ge-QUERIES-2 t c = (record { holds = omega arith }, re
 pub body-overflow_add-at-then-kind-eq-VALUES : goal.body-overflow_add-at-then-kind-eq-VALUES
 body-overflow_add-at-then-kind-eq-VALUES t c = omega arith
 
-pub body-overflow_add-ask-then-kind-eq-VALUES : goal.body-overflow_add-ask-then-kind-eq-VALUES
-body-overflow_add-ask-then-kind-eq-VALUES t c = omega arith
-
-pub body-overflow_add-ask-then-kind-eq-VALUES-2 : goal.body-overflow_add-ask-then-kind-eq-VALUES-2
-body-overflow_add-ask-then-kind-eq-VALUES-2 t c = omega arith
-
-pub body-rows-requires : goal.body-rows-requires
-body-rows-requires t c = let q : queries_of c.args.ask < 16 = omega arith in let o : Asks 66 (c.args.ask + 16 + 1) = opening _ c.requires.1 c.requires.2 q in omega (arith)
-
 pub body-returns-then-kind-eq-VALUES : goal.body-returns-then-kind-eq-VALUES
 unfolding expr_w
-body-returns-then-kind-eq-VALUES t c = (further c.rows.ensures.0 (omega (arith)), opened (omega arith), record { does = λ a p. next (c.rows.ensures.1.does _ (query_opened p refl (omega (arith, queries_of_lem p, c.queries-then-kind-eq-VALUES.ensures, c.if-queries-ge-QUERIES-2.false)))) (λ f h. left _ _ _ (isn't c.peek-kind.ensures c.if-kind-eq-SELECT.false) (took _ _ _ (is c.peek-kind.ensures c.if-kind-eq-VALUES.true) (left _ _ _ (lt-leb 16 a.opened (omega (arith, queries_of_lem p, c.queries-then-kind-eq-VALUES.ensures, c.if-queries-ge-QUERIES-2.false))) h))) })
+body-returns-then-kind-eq-VALUES t c = (further c.rows.ensures.0 (omega (arith)), opened (omega arith), record { does = λ a p. next (c.rows.ensures.1.does _ (c.opened-then-kind-eq-VALUES.ensures.opens _ p (omega (arith, queries_of_lem p, c.queries-then-kind-eq-VALUES.ensures, c.if-queries-ge-QUERIES-2.false)))) (λ f h. left _ _ _ (isn't c.peek-kind.ensures c.if-kind-eq-SELECT.false) (took _ _ _ (is c.peek-kind.ensures c.if-kind-eq-VALUES.true) (left _ _ _ (lt-leb 16 a.opened (omega (arith, queries_of_lem p, c.queries-then-kind-eq-VALUES.ensures, c.if-queries-ge-QUERIES-2.false))) h))) })
 
 pub body-wrong-requires : goal.body-wrong-requires
 body-wrong-requires t c = omega arith
@@ -352,26 +328,23 @@ pub col-returns-then-kind-eq-STAR : goal.col-returns-then-kind-eq-STAR
 unfolding expr_w
 col-returns-then-kind-eq-STAR t c = (ended c.got.ensures (omega arith), record { does = λ a p. at_once (λ f. took _ _ _ (is c.peek-kind.ensures c.if-kind-eq-STAR.true) (laid c.got.ensures refl c.emit-m.ensures.1)) })
 
-pub col-asking-requires : goal.col-asking-requires
-col-asking-requires t c = omega arith
-
 pub col-expr-r-requires : goal.col-expr-r-requires
 col-expr-r-requires t c = omega arith
 
 pub col-returns-in_default : goal.col-returns-in_default
 unfolding expr_w
-col-returns-in_default t c = (passed_on c.expr-r.ensures.0 c.in_default.is, record { does = λ a p. next ((c.expr-r.ensures.1 0).does a (c.asking.ensures.3.packs a 1 p)) (λ f h. left _ _ _ (isn't c.peek-kind.ensures c.if-kind-eq-STAR.false) (halts _ _ h c.in_default.is)) })
+col-returns-in_default t c = (passed_on c.expr-r.ensures.0 c.in_default.is, record { does = λ a p. next ((c.expr-r.ensures.1 0).does a (c.with.ensures.2.packs a 1 p)) (λ f h. left _ _ _ (isn't c.peek-kind.ensures c.if-kind-eq-STAR.false) (halts _ _ h c.in_default.is)) })
 
 pub col-returns-then-s_d-eq0 : goal.col-returns-then-s_d-eq0
 unfolding expr_w
-col-returns-then-s_d-eq0 t c = (record { holds = omega (arith, got_in c.expr-r.ensures.0 c.in-Got.is) }, record { does = λ a p. next ((c.expr-r.ensures.1 0).does a (c.asking.ensures.3.packs a 1 p)) (λ f h. left _ _ _ (isn't c.peek-kind.ensures c.if-kind-eq-STAR.false) (goes _ _ h c.in-Got.is (λ rs F. took _ _ _ (eqb-true _ _ c.if-s_d-eq0.true) (laid refl refl F)))) })
+col-returns-then-s_d-eq0 t c = (record { holds = omega (arith, got_in c.expr-r.ensures.0 c.in-Got.is) }, record { does = λ a p. next ((c.expr-r.ensures.1 0).does a (c.with.ensures.2.packs a 1 p)) (λ f h. left _ _ _ (isn't c.peek-kind.ensures c.if-kind-eq-STAR.false) (goes _ _ h c.in-Got.is (λ rs F. took _ _ _ (eqb-true _ _ c.if-s_d-eq0.true) (laid refl refl F)))) })
 
 pub col-alias-a-requires : goal.col-alias-a-requires
 col-alias-a-requires t c = omega (arith, got_in c.expr-r.ensures.0 c.in-Got.is, c.requires, c.if-s_d-eq0.false, c.if-kind-eq-STAR.false, c.peek-kind.ensures)
 
 pub col-returns-in_default-a : goal.col-returns-in_default-a
 unfolding expr_w
-col-returns-in_default-a t c = (passed_on c.alias-a.ensures.0 c.in_default-a.is, record { does = λ a p. next ((c.expr-r.ensures.1 0).does a (c.asking.ensures.3.packs a 1 p)) (λ f h. left _ _ _ (isn't c.peek-kind.ensures c.if-kind-eq-STAR.false) (goes _ _ h c.in-Got.is (λ rs F. left _ _ _ (ne_eqb _ _ c.if-s_d-eq0.false) (halts _ _ c.alias-a.ensures.1 c.in_default-a.is)))) })
+col-returns-in_default-a t c = (passed_on c.alias-a.ensures.0 c.in_default-a.is, record { does = λ a p. next ((c.expr-r.ensures.1 0).does a (c.with.ensures.2.packs a 1 p)) (λ f h. left _ _ _ (isn't c.peek-kind.ensures c.if-kind-eq-STAR.false) (goes _ _ h c.in-Got.is (λ rs F. left _ _ _ (ne_eqb _ _ c.if-s_d-eq0.false) (halts _ _ c.alias-a.ensures.1 c.in_default-a.is)))) })
 
 pub col-overflow_cast-s_e : goal.col-overflow_cast-s_e
 col-overflow_cast-s_e t c = omega (arith, got_in c.alias-a.ensures.0 c.in-Got-a.is, got_in c.expr-r.ensures.0 c.in-Got.is, c.requires, c.if-s_d-eq0.false, c.if-kind-eq-STAR.false, c.peek-kind.ensures)
@@ -387,7 +360,7 @@ col-emit-m-requires-2 t c = omega (arith, got_in c.alias-a.ensures.0 c.in-Got-a.
 
 pub col-returns : goal.col-returns
 unfolding expr_w
-col-returns t c = (ended c.got-2.ensures (omega (arith, got_in c.alias-a.ensures.0 c.in-Got-a.is, got_in c.expr-r.ensures.0 c.in-Got.is, c.requires, c.emit-m-2.ensures.0, c.if-s_d-eq0.false, c.if-kind-eq-STAR.false, c.peek-kind.ensures)), record { does = λ a p. next ((c.expr-r.ensures.1 0).does a (c.asking.ensures.3.packs a 1 p)) (λ f h. left _ _ _ (isn't c.peek-kind.ensures c.if-kind-eq-STAR.false) (goes _ _ h c.in-Got.is (λ rs F. left _ _ _ (ne_eqb _ _ c.if-s_d-eq0.false) (goes _ _ c.alias-a.ensures.1 c.in-Got-a.is (λ qs G. laid c.got-2.ensures refl (topped (F then G) c.emit-m-2.ensures.1)))))) })
+col-returns t c = (ended c.got-2.ensures (omega (arith, got_in c.alias-a.ensures.0 c.in-Got-a.is, got_in c.expr-r.ensures.0 c.in-Got.is, c.requires, c.emit-m-2.ensures.0, c.if-s_d-eq0.false, c.if-kind-eq-STAR.false, c.peek-kind.ensures)), record { does = λ a p. next ((c.expr-r.ensures.1 0).does a (c.with.ensures.2.packs a 1 p)) (λ f h. left _ _ _ (isn't c.peek-kind.ensures c.if-kind-eq-STAR.false) (goes _ _ h c.in-Got.is (λ rs F. left _ _ _ (ne_eqb _ _ c.if-s_d-eq0.false) (goes _ _ c.alias-a.ensures.1 c.in-Got-a.is (λ qs G. laid c.got-2.ensures refl (topped (F then G) c.emit-m-2.ensures.1)))))) })
 
 -- ── cols ──
 pub cols-loop-d-init : goal.cols-loop-d-init
@@ -425,9 +398,9 @@ cols-returns t c = (ended c.counted.ensures (omega (arith, got_in c.col-r.ensure
 pub ex-too_deep-requires : goal.ex-too_deep-requires
 ex-too_deep-requires t c = omega arith
 
-pub ex-returns-then-ask-ge-TOO_DEEP : goal.ex-returns-then-ask-ge-TOO_DEEP
+pub ex-returns-then-level-gt-LEVELS : goal.ex-returns-then-level-gt-LEVELS
 unfolding expr_w
-ex-returns-then-ask-ge-TOO_DEEP t c = (refused c.too_deep.ensures.0 (omega arith), λ s. record { does = λ a p. at_once (λ f. took _ _ _ (lt-ltb 64 a.level (omega (arith, p.sum, p.weak, p.few, c.if-ask-ge-TOO_DEEP.true))) (deep_walk c.args.ask s c.peek-kind.ensures (strength_of p) c.too_deep.ensures.1)) })
+ex-returns-then-level-gt-LEVELS t c = (refused c.too_deep.ensures.0 (omega arith), λ s. record { does = λ a p. at_once (λ f. took _ _ _ (lt-ltb 64 a.level (omega (arith, p.sum, p.weak, p.few, c.if-level-gt-LEVELS.true))) (deep_walk c.args.ask s c.peek-kind.ensures (strength_of p) c.too_deep.ensures.1)) })
 
 pub ex-leaf-first-requires : goal.ex-leaf-first-requires
 ex-leaf-first-requires t c = omega arith
@@ -437,7 +410,7 @@ ex-operand-first-requires t c = omega arith
 
 pub ex-returns-in_default-first : goal.ex-returns-in_default-first
 unfolding expr_w
-ex-returns-in_default-first t c = (let f : Within 1 0 c.args.lists.now c.args.at c.args.made c.if-kind-lt1.first = elim c.if-kind-lt1.branch [ ex-in-1-to-11 w ↦ same_answer w.first-is w.leaf-first.ensures.0 | ex-in_default w ↦ same_answer w.first-is w.operand-first.ensures.0 ] in passed_on f c.in_default-first.is, λ s. record { does = λ a p. let g : Later (λ f. Laid c.args.made c.args.nodes.now c.if-kind-lt1.nodes (choose (both (leb 1 (get_or (kinds_of c.args.lists.now) c.args.at 0)) (leb (get_or (kinds_of c.args.lists.now) c.args.at 0) 11)) (leaf_w (kinds_of c.args.lists.now) (texts_of c.args.lists.now) f c.args.at a s) (operand_w (kinds_of c.args.lists.now) (texts_of c.args.lists.now) f c.args.at a s)) c.if-kind-lt1.first) = elim c.if-kind-lt1.branch [ ex-in-1-to-11 w ↦ so ((w.leaf-first.ensures.1 s).does a p) (λ f h. took _ _ _ (by_kind (λ z. both (leb 1 z) (leb z 11)) c.peek-kind.ensures (between_in 1 11 c.peek-kind.result (omega arith) (omega arith))) (laid_joined w.nodes-is w.first-is h)) | ex-in_default w ↦ so ((w.operand-first.ensures.1 s).does a p) (λ f h. left _ _ _ (by_kind (λ z. both (leb 1 z) (leb z 11)) c.peek-kind.ensures (elim w.in_default.branch [ ex-in_default-via-then-kind-lt1 v ↦ between_out 1 11 c.peek-kind.result (λ z. omega (arith, z)) | ex-in_default-via-else-kind-lt1+else-kind-lt12 v ↦ between_out 1 11 c.peek-kind.result (λ z. omega (arith, z)) ])) (laid_joined w.nodes-is w.first-is h)) ] in next (g) (λ f h. left _ _ _ (le-ltb 64 a.level (omega (arith, p.sum, p.weak, p.few, c.if-ask-ge-TOO_DEEP.false))) (halts _ _ h c.in_default-first.is)) })
+ex-returns-in_default-first t c = (let f : Within 1 0 c.args.lists.now c.args.at c.args.made c.if-kind-lt1.first = elim c.if-kind-lt1.branch [ ex-in-1-to-11 w ↦ same_answer w.first-is w.leaf-first.ensures.0 | ex-in_default w ↦ same_answer w.first-is w.operand-first.ensures.0 ] in passed_on f c.in_default-first.is, λ s. record { does = λ a p. let g : Later (λ f. Laid c.args.made c.args.nodes.now c.if-kind-lt1.nodes (choose (both (leb 1 (get_or (kinds_of c.args.lists.now) c.args.at 0)) (leb (get_or (kinds_of c.args.lists.now) c.args.at 0) 11)) (leaf_w (kinds_of c.args.lists.now) (texts_of c.args.lists.now) f c.args.at a s) (operand_w (kinds_of c.args.lists.now) (texts_of c.args.lists.now) f c.args.at a s)) c.if-kind-lt1.first) = elim c.if-kind-lt1.branch [ ex-in-1-to-11 w ↦ so ((w.leaf-first.ensures.1 s).does a p) (λ f h. took _ _ _ (by_kind (λ z. both (leb 1 z) (leb z 11)) c.peek-kind.ensures (between_in 1 11 c.peek-kind.result (omega arith) (omega arith))) (laid_joined w.nodes-is w.first-is h)) | ex-in_default w ↦ so ((w.operand-first.ensures.1 s).does a p) (λ f h. left _ _ _ (by_kind (λ z. both (leb 1 z) (leb z 11)) c.peek-kind.ensures (elim w.in_default.branch [ ex-in_default-via-then-kind-lt1 v ↦ between_out 1 11 c.peek-kind.result (λ z. omega (arith, z)) | ex-in_default-via-else-kind-lt1+else-kind-lt12 v ↦ between_out 1 11 c.peek-kind.result (λ z. omega (arith, z)) ])) (laid_joined w.nodes-is w.first-is h)) ] in next (g) (λ f h. left _ _ _ (le-ltb 64 a.level (omega (arith, p.sum, p.weak, p.few, c.if-level-gt-LEVELS.false))) (halts _ _ h c.in_default-first.is)) })
 
 pub ex-overflow_cast-s_d : goal.ex-overflow_cast-s_d
 ex-overflow_cast-s_d t c = let f : Within 1 0 c.args.lists.now c.args.at c.args.made c.if-kind-lt1.first = elim c.if-kind-lt1.branch [ ex-in-1-to-11 w ↦ same_answer w.first-is w.leaf-first.ensures.0 | ex-in_default w ↦ same_answer w.first-is w.operand-first.ensures.0 ] in omega (arith, got_in f c.in-Got.is)
@@ -447,7 +420,7 @@ ex-ops-requires t c = let f : Within 1 0 c.args.lists.now c.args.at c.args.made 
 
 pub ex-returns : goal.ex-returns
 unfolding expr_w
-ex-returns t c = let f : Within 1 0 c.args.lists.now c.args.at c.args.made c.if-kind-lt1.first = elim c.if-kind-lt1.branch [ ex-in-1-to-11 w ↦ same_answer w.first-is w.leaf-first.ensures.0 | ex-in_default w ↦ same_answer w.first-is w.operand-first.ensures.0 ] in (further c.ops.ensures.0 (omega (arith, got_in f c.in-Got.is, c.requires)), λ s. record { does = λ a p. let g : Later (λ f. Laid c.args.made c.args.nodes.now c.if-kind-lt1.nodes (choose (both (leb 1 (get_or (kinds_of c.args.lists.now) c.args.at 0)) (leb (get_or (kinds_of c.args.lists.now) c.args.at 0) 11)) (leaf_w (kinds_of c.args.lists.now) (texts_of c.args.lists.now) f c.args.at a s) (operand_w (kinds_of c.args.lists.now) (texts_of c.args.lists.now) f c.args.at a s)) c.if-kind-lt1.first) = elim c.if-kind-lt1.branch [ ex-in-1-to-11 w ↦ so ((w.leaf-first.ensures.1 s).does a p) (λ f h. took _ _ _ (by_kind (λ z. both (leb 1 z) (leb z 11)) c.peek-kind.ensures (between_in 1 11 c.peek-kind.result (omega arith) (omega arith))) (laid_joined w.nodes-is w.first-is h)) | ex-in_default w ↦ so ((w.operand-first.ensures.1 s).does a p) (λ f h. left _ _ _ (by_kind (λ z. both (leb 1 z) (leb z 11)) c.peek-kind.ensures (elim w.in_default.branch [ ex-in_default-via-then-kind-lt1 v ↦ between_out 1 11 c.peek-kind.result (λ z. omega (arith, z)) | ex-in_default-via-else-kind-lt1+else-kind-lt12 v ↦ between_out 1 11 c.peek-kind.result (λ z. omega (arith, z)) ])) (laid_joined w.nodes-is w.first-is h)) ] in next (g also for_any _ _ (λ pre e. (c.ops.ensures.1 s pre e).does a p) (got_in f c.in-Got.is).more) (λ f h. left _ _ _ (le-ltb 64 a.level (omega (arith, p.sum, p.weak, p.few, c.if-ask-ge-TOO_DEEP.false))) (goes _ _ h.0 c.in-Got.is (λ rs F. behind _ _ F (h.1 (length rs) F.counted)))) })
+ex-returns t c = let f : Within 1 0 c.args.lists.now c.args.at c.args.made c.if-kind-lt1.first = elim c.if-kind-lt1.branch [ ex-in-1-to-11 w ↦ same_answer w.first-is w.leaf-first.ensures.0 | ex-in_default w ↦ same_answer w.first-is w.operand-first.ensures.0 ] in (further c.ops.ensures.0 (omega (arith, got_in f c.in-Got.is, c.requires)), λ s. record { does = λ a p. let g : Later (λ f. Laid c.args.made c.args.nodes.now c.if-kind-lt1.nodes (choose (both (leb 1 (get_or (kinds_of c.args.lists.now) c.args.at 0)) (leb (get_or (kinds_of c.args.lists.now) c.args.at 0) 11)) (leaf_w (kinds_of c.args.lists.now) (texts_of c.args.lists.now) f c.args.at a s) (operand_w (kinds_of c.args.lists.now) (texts_of c.args.lists.now) f c.args.at a s)) c.if-kind-lt1.first) = elim c.if-kind-lt1.branch [ ex-in-1-to-11 w ↦ so ((w.leaf-first.ensures.1 s).does a p) (λ f h. took _ _ _ (by_kind (λ z. both (leb 1 z) (leb z 11)) c.peek-kind.ensures (between_in 1 11 c.peek-kind.result (omega arith) (omega arith))) (laid_joined w.nodes-is w.first-is h)) | ex-in_default w ↦ so ((w.operand-first.ensures.1 s).does a p) (λ f h. left _ _ _ (by_kind (λ z. both (leb 1 z) (leb z 11)) c.peek-kind.ensures (elim w.in_default.branch [ ex-in_default-via-then-kind-lt1 v ↦ between_out 1 11 c.peek-kind.result (λ z. omega (arith, z)) | ex-in_default-via-else-kind-lt1+else-kind-lt12 v ↦ between_out 1 11 c.peek-kind.result (λ z. omega (arith, z)) ])) (laid_joined w.nodes-is w.first-is h)) ] in next (g also for_any _ _ (λ pre e. (c.ops.ensures.1 s pre e).does a p) (got_in f c.in-Got.is).more) (λ f h. left _ _ _ (le-ltb 64 a.level (omega (arith, p.sum, p.weak, p.few, c.if-level-gt-LEVELS.false))) (goes _ _ h.0 c.in-Got.is (λ rs F. behind _ _ F (h.1 (length rs) F.counted)))) })
 
 -- ── exists ──
 pub exists-wrong-requires : goal.exists-wrong-requires
@@ -480,7 +453,7 @@ from-absent-m-requires t c = omega arith
 
 pub from-returns-then-kind-ne-FROM : goal.from-returns-then-kind-ne-FROM
 unfolding expr_w absences
-from-returns-then-kind-ne-FROM t c = (ended c.got.ensures (omega arith), record { does = λ a p. at_once (λ f. left _ _ _ (isn't c.requires.2 c.if-kind-ne-FROM.true) (laid c.got.ensures refl c.absent-m.ensures.1)) })
+from-returns-then-kind-ne-FROM t c = (ended c.got.ensures (omega arith), record { does = λ a p. at_once (λ f. left _ _ _ (isn't c.requires.1 c.if-kind-ne-FROM.true) (laid c.got.ensures refl c.absent-m.ensures.1)) })
 
 pub from-overflow_add-at : goal.from-overflow_add-at
 from-overflow_add-at t c = omega arith
@@ -490,14 +463,14 @@ from-source-s-requires t c = omega arith
 
 pub from-returns-in_default : goal.from-returns-in_default
 unfolding expr_w absences
-from-returns-in_default t c = (passed_on c.source-s.ensures.0 c.in_default.is, record { does = λ a p. next (c.source-s.ensures.1.does a p) (λ f h. took _ _ _ (is c.requires.2 c.if-kind-ne-FROM.false) (halts _ _ h c.in_default.is)) })
+from-returns-in_default t c = (passed_on c.source-s.ensures.0 c.in_default.is, record { does = λ a p. next (c.source-s.ensures.1.does a p) (λ f h. took _ _ _ (is c.requires.1 c.if-kind-ne-FROM.false) (halts _ _ h c.in_default.is)) })
 
 pub from-joins-j-requires : goal.from-joins-j-requires
 from-joins-j-requires t c = omega (arith, got_in c.source-s.ensures.0 c.in-Got.is, c.requires, c.if-kind-ne-FROM.false)
 
 pub from-returns-in_default-j : goal.from-returns-in_default-j
 unfolding expr_w absences
-from-returns-in_default-j t c = (passed_on c.joins-j.ensures.0 c.in_default-j.is, record { does = λ a p. next (c.source-s.ensures.1.does a p also c.joins-j.ensures.1.does a p) (λ f h. took _ _ _ (is c.requires.2 c.if-kind-ne-FROM.false) (goes _ _ h.0 c.in-Got.is (λ rs F. halts _ _ h.1 c.in_default-j.is))) })
+from-returns-in_default-j t c = (passed_on c.joins-j.ensures.0 c.in_default-j.is, record { does = λ a p. next (c.source-s.ensures.1.does a p also c.joins-j.ensures.1.does a p) (λ f h. took _ _ _ (is c.requires.1 c.if-kind-ne-FROM.false) (goes _ _ h.0 c.in-Got.is (λ rs F. halts _ _ h.1 c.in_default-j.is))) })
 
 pub from-overflow_cast-n_d : goal.from-overflow_cast-n_d
 from-overflow_cast-n_d t c = omega (arith, got_in c.joins-j.ensures.0 c.in-Got-j.is, got_in c.source-s.ensures.0 c.in-Got.is, c.requires, c.if-kind-ne-FROM.false)
@@ -516,7 +489,7 @@ from-emit-m-requires t c = omega (arith, got_in c.joins-j.ensures.0 c.in-Got-j.i
 
 pub from-returns : goal.from-returns
 unfolding expr_w absences
-from-returns t c = (ended c.got-2.ensures (omega (arith, got_in c.joins-j.ensures.0 c.in-Got-j.is, got_in c.source-s.ensures.0 c.in-Got.is, c.requires, c.emit-m.ensures.0, c.if-kind-ne-FROM.false)), record { does = λ a p. next (c.source-s.ensures.1.does a p also c.joins-j.ensures.1.does a p) (λ f h. took _ _ _ (is c.requires.2 c.if-kind-ne-FROM.false) (goes _ _ h.0 c.in-Got.is (λ rs F. goes _ _ h.1 c.in-Got-j.is (λ qs G. laid c.got-2.ensures refl (topped (F then G) c.emit-m.ensures.1))))) })
+from-returns t c = (ended c.got-2.ensures (omega (arith, got_in c.joins-j.ensures.0 c.in-Got-j.is, got_in c.source-s.ensures.0 c.in-Got.is, c.requires, c.emit-m.ensures.0, c.if-kind-ne-FROM.false)), record { does = λ a p. next (c.source-s.ensures.1.does a p also c.joins-j.ensures.1.does a p) (λ f h. took _ _ _ (is c.requires.1 c.if-kind-ne-FROM.false) (goes _ _ h.0 c.in-Got.is (λ rs F. goes _ _ h.1 c.in-Got-j.is (λ qs G. laid c.got-2.ensures refl (topped (F then G) c.emit-m.ensures.1))))) })
 
 -- ── group ──
 pub group-overflow_add-at : goal.group-overflow_add-at
@@ -582,59 +555,59 @@ unfolding expr_w absences
 group-returns-in_default t c = (ended c.got.ensures (omega arith), record { does = λ a p. at_once (λ f. left _ _ _ (isn't c.peek-kind.ensures c.in_default.in_default-own.rest.0.1) (left _ _ _ (isn't c.peek-kind.ensures c.in_default.in_default-own.rest.1) (laid c.got.ensures refl c.absent-m.ensures.1))) })
 
 -- ── joins ──
-pub joins-loop-kind-init : goal.joins-loop-kind-init
+pub joins-loop-ask-init : goal.joins-loop-ask-init
 unfolding expr_w begins_join
-joins-loop-kind-init t c = (omega arith, λ a p. loop_start)
+joins-loop-ask-init t c = (omega arith, λ a p. loop_start)
 
 pub joins-joined-j-requires : goal.joins-joined-j-requires
 joins-joined-j-requires t c = omega arith
 
 pub joins-returns-in_default : goal.joins-returns-in_default
 unfolding expr_w begins_join
-joins-returns-in_default t c = (passed_on c.joined-j.ensures.0 c.in_default.is, record { does = λ a p. (c.loop-kind.invariant.1 a p).on _ _ (at_once (λ f. took _ _ _ (by_kind begins_join c.peek-kind.ensures (sym c.begins_join.ensures ∙ c.if-not-begins_join.false)) (halts _ _ c.joined-j.ensures.1 c.in_default.is))) })
+joins-returns-in_default t c = (passed_on c.joined-j.ensures.0 c.in_default.is, record { does = λ a p. (c.loop-ask.invariant.1 a p).on _ _ (at_once (λ f. took _ _ _ (by_kind begins_join c.peek-kind.ensures (sym c.begins_join.ensures ∙ c.if-not-begins_join.false)) (halts _ _ c.joined-j.ensures.1 c.in_default.is))) })
 
 pub joins-source-s-requires : goal.joins-source-s-requires
-joins-source-s-requires t c = omega (arith, got_in c.joined-j.ensures.0 c.in-Got.is, c.requires, c.peek-kind.ensures, c.loop-kind.invariant)
+joins-source-s-requires t c = omega (arith, got_in c.joined-j.ensures.0 c.in-Got.is, c.requires, c.peek-kind.ensures, c.loop-ask.invariant)
 
 pub joins-returns-in_default-s : goal.joins-returns-in_default-s
 unfolding expr_w begins_join
-joins-returns-in_default-s t c = (passed_on c.source-s.ensures.0 c.in_default-s.is, record { does = λ a p. (c.loop-kind.invariant.1 a p).on _ _ (next (c.source-s.ensures.1.does a p) (λ f h. took _ _ _ (by_kind begins_join c.peek-kind.ensures (sym c.begins_join.ensures ∙ c.if-not-begins_join.false)) (goes _ _ c.joined-j.ensures.1 c.in-Got.is (λ os O. halts _ _ h c.in_default-s.is)))) })
+joins-returns-in_default-s t c = (passed_on c.source-s.ensures.0 c.in_default-s.is, record { does = λ a p. (c.loop-ask.invariant.1 a p).on _ _ (next (c.source-s.ensures.1.does a p) (λ f h. took _ _ _ (by_kind begins_join c.peek-kind.ensures (sym c.begins_join.ensures ∙ c.if-not-begins_join.false)) (goes _ _ c.joined-j.ensures.1 c.in-Got.is (λ os O. halts _ _ h c.in_default-s.is)))) })
 
 pub joins-on-o-requires : goal.joins-on-o-requires
-joins-on-o-requires t c = omega (arith, got_in c.source-s.ensures.0 c.in-Got-s.is, got_in c.joined-j.ensures.0 c.in-Got.is, c.requires, c.peek-kind.ensures, c.loop-kind.invariant)
+joins-on-o-requires t c = omega (arith, got_in c.source-s.ensures.0 c.in-Got-s.is, got_in c.joined-j.ensures.0 c.in-Got.is, c.requires, c.peek-kind.ensures, c.loop-ask.invariant)
 
 pub joins-returns-in_default-o : goal.joins-returns-in_default-o
 unfolding expr_w begins_join
-joins-returns-in_default-o t c = (passed_on c.on-o.ensures.0 c.in_default-o.is, record { does = λ a p. (c.loop-kind.invariant.1 a p).on _ _ (next (c.source-s.ensures.1.does a p also c.on-o.ensures.1.does a p) (λ f h. took _ _ _ (by_kind begins_join c.peek-kind.ensures (sym c.begins_join.ensures ∙ c.if-not-begins_join.false)) (goes _ _ c.joined-j.ensures.1 c.in-Got.is (λ os O. goes _ _ h.0 c.in-Got-s.is (λ rs F. halts _ _ h.1 c.in_default-o.is))))) })
+joins-returns-in_default-o t c = (passed_on c.on-o.ensures.0 c.in_default-o.is, record { does = λ a p. (c.loop-ask.invariant.1 a p).on _ _ (next (c.source-s.ensures.1.does a p also c.on-o.ensures.1.does a p) (λ f h. took _ _ _ (by_kind begins_join c.peek-kind.ensures (sym c.begins_join.ensures ∙ c.if-not-begins_join.false)) (goes _ _ c.joined-j.ensures.1 c.in-Got.is (λ os O. goes _ _ h.0 c.in-Got-s.is (λ rs F. halts _ _ h.1 c.in_default-o.is))))) })
 
 pub joins-overflow_cast-s_c : goal.joins-overflow_cast-s_c
-joins-overflow_cast-s_c t c = omega (arith, got_in c.on-o.ensures.0 c.in-Got-o.is, got_in c.source-s.ensures.0 c.in-Got-s.is, got_in c.joined-j.ensures.0 c.in-Got.is, c.requires, c.peek-kind.ensures, c.loop-kind.invariant)
+joins-overflow_cast-s_c t c = omega (arith, got_in c.on-o.ensures.0 c.in-Got-o.is, got_in c.source-s.ensures.0 c.in-Got-s.is, got_in c.joined-j.ensures.0 c.in-Got.is, c.requires, c.peek-kind.ensures, c.loop-ask.invariant)
 
 pub joins-overflow_sub-e : goal.joins-overflow_sub-e
-joins-overflow_sub-e t c = omega (arith, got_in c.on-o.ensures.0 c.in-Got-o.is, got_in c.source-s.ensures.0 c.in-Got-s.is, got_in c.joined-j.ensures.0 c.in-Got.is, c.requires, c.peek-kind.ensures, c.loop-kind.invariant)
+joins-overflow_sub-e t c = omega (arith, got_in c.on-o.ensures.0 c.in-Got-o.is, got_in c.source-s.ensures.0 c.in-Got-s.is, got_in c.joined-j.ensures.0 c.in-Got.is, c.requires, c.peek-kind.ensures, c.loop-ask.invariant)
 
 pub joins-overflow_add-e : goal.joins-overflow_add-e
-joins-overflow_add-e t c = omega (arith, got_in c.on-o.ensures.0 c.in-Got-o.is, got_in c.source-s.ensures.0 c.in-Got-s.is, got_in c.joined-j.ensures.0 c.in-Got.is, c.requires, c.peek-kind.ensures, c.loop-kind.invariant)
+joins-overflow_add-e t c = omega (arith, got_in c.on-o.ensures.0 c.in-Got-o.is, got_in c.source-s.ensures.0 c.in-Got-s.is, got_in c.joined-j.ensures.0 c.in-Got.is, c.requires, c.peek-kind.ensures, c.loop-ask.invariant)
 
 pub joins-emit-made-requires : goal.joins-emit-made-requires
-joins-emit-made-requires t c = omega (arith, got_in c.on-o.ensures.0 c.in-Got-o.is, got_in c.source-s.ensures.0 c.in-Got-s.is, got_in c.joined-j.ensures.0 c.in-Got.is, c.requires, c.peek-kind.ensures, c.loop-kind.invariant)
+joins-emit-made-requires t c = omega (arith, got_in c.on-o.ensures.0 c.in-Got-o.is, got_in c.source-s.ensures.0 c.in-Got-s.is, got_in c.joined-j.ensures.0 c.in-Got.is, c.requires, c.peek-kind.ensures, c.loop-ask.invariant)
 
 pub joins-overflow_add-n : goal.joins-overflow_add-n
-joins-overflow_add-n t c = omega (arith, got_in c.on-o.ensures.0 c.in-Got-o.is, got_in c.source-s.ensures.0 c.in-Got-s.is, got_in c.joined-j.ensures.0 c.in-Got.is, c.requires, c.emit-made.ensures.0, c.peek-kind.ensures, c.loop-kind.invariant)
+joins-overflow_add-n t c = omega (arith, got_in c.on-o.ensures.0 c.in-Got-o.is, got_in c.source-s.ensures.0 c.in-Got-s.is, got_in c.joined-j.ensures.0 c.in-Got.is, c.requires, c.emit-made.ensures.0, c.peek-kind.ensures, c.loop-ask.invariant)
 
-pub joins-loop-kind-smaller : goal.joins-loop-kind-smaller
-joins-loop-kind-smaller t c = omega (arith, got_in c.on-o.ensures.0 c.in-Got-o.is, got_in c.source-s.ensures.0 c.in-Got-s.is, got_in c.joined-j.ensures.0 c.in-Got.is, c.requires, c.emit-made.ensures.0, c.peek-kind.ensures, c.loop-kind.invariant)
+pub joins-loop-ask-smaller : goal.joins-loop-ask-smaller
+joins-loop-ask-smaller t c = omega (arith, got_in c.on-o.ensures.0 c.in-Got-o.is, got_in c.source-s.ensures.0 c.in-Got-s.is, got_in c.joined-j.ensures.0 c.in-Got.is, c.requires, c.emit-made.ensures.0, c.peek-kind.ensures, c.loop-ask.invariant)
 
-pub joins-loop-kind-preserved : goal.joins-loop-kind-preserved
+pub joins-loop-ask-preserved : goal.joins-loop-ask-preserved
 unfolding expr_w begins_join
-joins-loop-kind-preserved t c = (omega (arith, got_in c.on-o.ensures.0 c.in-Got-o.is, got_in c.source-s.ensures.0 c.in-Got-s.is, got_in c.joined-j.ensures.0 c.in-Got.is, c.requires, c.emit-made.ensures.0, c.peek-kind.ensures, c.loop-kind.invariant), λ a p. record { on = λ r N' l. (c.loop-kind.invariant.1 a p).on r N' (next (c.source-s.ensures.1.does a p also c.on-o.ensures.1.does a p also l) (λ f h. took _ _ _ (by_kind begins_join c.peek-kind.ensures (sym c.begins_join.ensures ∙ c.if-not-begins_join.false)) (goes _ _ c.joined-j.ensures.1 c.in-Got.is (λ os O. goes _ _ h.0 c.in-Got-s.is (λ rs F. goes _ _ h.1.0 c.in-Got-o.is (λ qs G. behind _ _ (topped (F then G) c.emit-made.ensures.1) h.1.1)))))) })
+joins-loop-ask-preserved t c = (omega (arith, got_in c.on-o.ensures.0 c.in-Got-o.is, got_in c.source-s.ensures.0 c.in-Got-s.is, got_in c.joined-j.ensures.0 c.in-Got.is, c.requires, c.emit-made.ensures.0, c.peek-kind.ensures, c.loop-ask.invariant), λ a p. record { on = λ r N' l. (c.loop-ask.invariant.1 a p).on r N' (next (c.source-s.ensures.1.does a p also c.on-o.ensures.1.does a p also l) (λ f h. took _ _ _ (by_kind begins_join c.peek-kind.ensures (sym c.begins_join.ensures ∙ c.if-not-begins_join.false)) (goes _ _ c.joined-j.ensures.1 c.in-Got.is (λ os O. goes _ _ h.0 c.in-Got-s.is (λ rs F. goes _ _ h.1.0 c.in-Got-o.is (λ qs G. behind _ _ (topped (F then G) c.emit-made.ensures.1) h.1.1)))))) })
 
 pub joins-counted-requires : goal.joins-counted-requires
 joins-counted-requires t c = omega arith
 
 pub joins-returns : goal.joins-returns
 unfolding expr_w begins_join
-joins-returns t c = (ended c.counted.ensures (omega arith), record { does = λ a p. (c.loop-kind.invariant.1 a p).on _ _ (at_once (λ f. left _ _ _ (by_kind begins_join c.peek-kind.ensures (sym c.begins_join.ensures ∙ c.if-not-begins_join.true)) (laid c.counted.ensures refl (nothing)))) })
+joins-returns t c = (ended c.counted.ensures (omega arith), record { does = λ a p. (c.loop-ask.invariant.1 a p).on _ _ (at_once (λ f. left _ _ _ (by_kind begins_join c.peek-kind.ensures (sym c.begins_join.ensures ∙ c.if-not-begins_join.true)) (laid c.counted.ensures refl (nothing)))) })
 
 -- ── leaf ──
 pub leaf-literal_text-requires : goal.leaf-literal_text-requires
@@ -667,7 +640,7 @@ leaf-call-requires t c = omega (arith, c.requires, c.if-kind-ne-INDEXED.true, c.
 
 pub leaf-returns-then-kind-ne-INDEXED : goal.leaf-returns-then-kind-ne-INDEXED
 unfolding expr_w
-leaf-returns-then-kind-ne-INDEXED t c = (further c.call.ensures.0 (omega (arith, c.requires, c.if-kind-ne-INDEXED.true, c.if-next-eq-LP.true, c.peek-next.ensures, c.named-m.ensures.0, c.if-code-gt0.false)), λ s. record { does = λ a p. next (c.call.ensures.1.does (deeper a) (c.deeper.ensures.1.packs a s p)) (λ f h. left _ _ _ (by_kind (λ k. ltb 0 (literal_code k)) c.requires.3 (le-ltb 0 (literal_code c.args.kind) (omega (arith, c.literal_code-code.ensures, c.if-code-gt0.false)))) (took _ _ _ (both_i _ _ (is c.peek-next.ensures c.if-next-eq-LP.true) (by_kind heads_call c.requires.3 (heads_call_lem c.args.kind c.requires.4 c.requires.5 (omega (arith, c.literal_code-code.ensures, c.if-code-gt0.false)) c.if-kind-ne-INDEXED.true))) (behind _ _ (c.named-m.ensures.1 c.requires.3.is) h))) })
+leaf-returns-then-kind-ne-INDEXED t c = (further c.call.ensures.0 (omega (arith, c.requires, c.if-kind-ne-INDEXED.true, c.if-next-eq-LP.true, c.peek-next.ensures, c.named-m.ensures.0, c.if-code-gt0.false)), λ s. record { does = λ a p. next (c.call.ensures.1.does (deeper a) (c.deeper.ensures.packs a s p)) (λ f h. left _ _ _ (by_kind (λ k. ltb 0 (literal_code k)) c.requires.3 (le-ltb 0 (literal_code c.args.kind) (omega (arith, c.literal_code-code.ensures, c.if-code-gt0.false)))) (took _ _ _ (both_i _ _ (is c.peek-next.ensures c.if-next-eq-LP.true) (by_kind heads_call c.requires.3 (heads_call_lem c.args.kind c.requires.4 c.requires.5 (omega (arith, c.literal_code-code.ensures, c.if-code-gt0.false)) c.if-kind-ne-INDEXED.true))) (behind _ _ (c.named-m.ensures.1 c.requires.3.is) h))) })
 
 pub leaf-overflow_add-at-3 : goal.leaf-overflow_add-at-3
 leaf-overflow_add-at-3 t c = omega (arith, c.requires, c.peek-next.ensures, c.named-m.ensures.0, c.if-code-gt0.false)
@@ -677,7 +650,7 @@ leaf-dotted-requires t c = omega (arith, c.requires, c.peek-next.ensures, c.name
 
 pub leaf-returns : goal.leaf-returns
 unfolding expr_w
-leaf-returns t c = (further c.dotted.ensures.0 (omega (arith, c.requires, c.peek-next.ensures, c.named-m.ensures.0, c.if-code-gt0.false)), λ s. record { does = λ a p. at_once (λ f. left _ _ _ (by_kind (λ k. ltb 0 (literal_code k)) c.requires.3 (le-ltb 0 (literal_code c.args.kind) (omega (arith, c.literal_code-code.ensures, c.if-code-gt0.false)))) (left _ _ _ (elim c.if-next-eq-LP.branch [ leaf-then-next-eq-LP+else-kind-ne-INDEXED w ↦ no_right _ _ (by_kind heads_call c.requires.3 (indexed_heads_none _ w.if-kind-ne-INDEXED.false)) | leaf-else-next-eq-LP w ↦ no_left _ _ (isn't c.peek-next.ensures w.if-next-eq-LP.false) ]) (behind _ _ (c.named-m.ensures.1 c.requires.3.is) (by_walk (ap (λ z. dotted_w (kinds_of c.args.lists.now) (texts_of c.args.lists.now) (c.args.at + 1) z) (sym (c.asked.ensures ∙ strength_of p))) c.dotted.ensures.1)))) })
+leaf-returns t c = (further c.dotted.ensures.0 (omega (arith, c.requires, c.peek-next.ensures, c.named-m.ensures.0, c.if-code-gt0.false)), λ s. record { does = λ a p. at_once (λ f. left _ _ _ (by_kind (λ k. ltb 0 (literal_code k)) c.requires.3 (le-ltb 0 (literal_code c.args.kind) (omega (arith, c.literal_code-code.ensures, c.if-code-gt0.false)))) (left _ _ _ (elim c.if-next-eq-LP.branch [ leaf-then-next-eq-LP+else-kind-ne-INDEXED w ↦ no_right _ _ (by_kind heads_call c.requires.3 (indexed_heads_none _ w.if-kind-ne-INDEXED.false)) | leaf-else-next-eq-LP w ↦ no_left _ _ (isn't c.peek-next.ensures w.if-next-eq-LP.false) ]) (behind _ _ (c.named-m.ensures.1 c.requires.3.is) (by_walk (ap (λ z. dotted_w (kinds_of c.args.lists.now) (texts_of c.args.lists.now) (c.args.at + 1) z) (sym (c.strength.ensures ∙ strength_of p))) c.dotted.ensures.1)))) })
 
 -- ── limit ──
 pub limit-absent-m-requires : goal.limit-absent-m-requires
@@ -812,19 +785,19 @@ pub op-binary-requires : goal.op-binary-requires
 op-binary-requires t c = omega arith
 
 pub op-returns-then-kind-lt-NOT : goal.op-returns-then-kind-lt-NOT
-op-returns-then-kind-lt-NOT t c = (further c.binary.ensures.0 (omega arith), λ s pre b. record { does = λ a p. op_binary a s pre c.requires.3 c.if-kind-lt-NOT.true ((c.binary.ensures.1 s pre b).does a p) })
+op-returns-then-kind-lt-NOT t c = (further c.binary.ensures.0 (omega arith), λ s pre b. record { does = λ a p. op_binary a s pre c.requires.2 c.if-kind-lt-NOT.true ((c.binary.ensures.1 s pre b).does a p) })
 
 pub op-overflow_add-at-then-kind-eq-NOT-2 : goal.op-overflow_add-at-then-kind-eq-NOT-2
 op-overflow_add-at-then-kind-eq-NOT-2 t c = omega arith
 
 pub op-overflow_add-not-in-40 : goal.op-overflow_add-not-in-40
-op-overflow_add-not-in-40 t c = let n : c.if-kind-eq-NOT.not ≤ 1 = omega arith in let s : Seen c.args.lists.now (c.args.at + c.if-kind-eq-NOT.not) c.if-kind-eq-NOT-2.word = elim c.if-kind-eq-NOT.branch [ op-then-kind-eq-NOT v ↦ elim c.if-kind-eq-NOT-2.branch [ op-then-kind-eq-NOT-2 w ↦ seen_as w.peek-word.ensures (omega arith) w.word-is | op-else-kind-eq-NOT-2 w ↦ absurd (omega arith) ] | op-else-kind-eq-NOT v ↦ elim c.if-kind-eq-NOT-2.branch [ op-then-kind-eq-NOT-2 w ↦ absurd (omega arith) | op-else-kind-eq-NOT-2 w ↦ seen_as c.requires.3 (omega arith) w.word-is ] ] in let l : c.text.result ≤ 3 = rw c.text.ensures (like_text c.args.lists.now _ c.args.lists.now.liked (sym s.is ∙ c.in-40.is)) in omega (arith)
+op-overflow_add-not-in-40 t c = let n : c.if-kind-eq-NOT.not ≤ 1 = omega arith in let s : Seen c.args.lists.now (c.args.at + c.if-kind-eq-NOT.not) c.if-kind-eq-NOT-2.word = elim c.if-kind-eq-NOT.branch [ op-then-kind-eq-NOT v ↦ elim c.if-kind-eq-NOT-2.branch [ op-then-kind-eq-NOT-2 w ↦ seen_as w.peek-word.ensures (omega arith) w.word-is | op-else-kind-eq-NOT-2 w ↦ absurd (omega arith) ] | op-else-kind-eq-NOT v ↦ elim c.if-kind-eq-NOT-2.branch [ op-then-kind-eq-NOT-2 w ↦ absurd (omega arith) | op-else-kind-eq-NOT-2 w ↦ seen_as c.requires.2 (omega arith) w.word-is ] ] in let l : c.text.result ≤ 3 = rw c.text.ensures (like_text c.args.lists.now _ c.args.lists.now.liked (sym s.is ∙ c.in-40.is)) in omega (arith)
 
 pub op-notnull-requires : goal.op-notnull-requires
 op-notnull-requires t c = omega arith
 
 pub op-returns-then-not-eq1 : goal.op-returns-then-not-eq1
-op-returns-then-not-eq1 t c = let way : Way c.args.lists.now c.args.at c.args.kind c.if-kind-eq-NOT.not c.if-kind-eq-NOT-2.word = way_of c.args.at (elim c.if-kind-eq-NOT.branch [ op-then-kind-eq-NOT w ↦ inl (w.if-kind-eq-NOT.true, w.not-is) | op-else-kind-eq-NOT w ↦ inr (w.if-kind-eq-NOT.false, w.not-is) ]) (elim c.if-kind-eq-NOT-2.branch [ op-then-kind-eq-NOT-2 w ↦ inl (w.if-kind-eq-NOT-2.true, seen_as w.peek-word.ensures refl w.word-is) | op-else-kind-eq-NOT-2 w ↦ inr (w.if-kind-eq-NOT-2.false, w.word-is) ]) in (let n : c.if-kind-eq-NOT.not ≤ 1 = omega arith in let s : Seen c.args.lists.now (c.args.at + c.if-kind-eq-NOT.not) c.if-kind-eq-NOT-2.word = elim c.if-kind-eq-NOT.branch [ op-then-kind-eq-NOT v ↦ elim c.if-kind-eq-NOT-2.branch [ op-then-kind-eq-NOT-2 w ↦ seen_as w.peek-word.ensures (omega arith) w.word-is | op-else-kind-eq-NOT-2 w ↦ absurd (omega arith) ] | op-else-kind-eq-NOT v ↦ elim c.if-kind-eq-NOT-2.branch [ op-then-kind-eq-NOT-2 w ↦ absurd (omega arith) | op-else-kind-eq-NOT-2 w ↦ seen_as c.requires.3 (omega arith) w.word-is ] ] in null_before c.notnull.ensures.0 (λ e. omega (arith)) (omega (arith)), λ s pre b. record { does = λ a p. op_null a s pre c.requires.3 way c.if-not-eq1.true c.in_default.in_default-own.rest.0.0.1 c.in_default.in_default-own.rest.0.1 c.in_default.in_default-own.rest.1 (c.notnull.ensures.1 pre b) })
+op-returns-then-not-eq1 t c = let way : Way c.args.lists.now c.args.at c.args.kind c.if-kind-eq-NOT.not c.if-kind-eq-NOT-2.word = way_of c.args.at (elim c.if-kind-eq-NOT.branch [ op-then-kind-eq-NOT w ↦ inl (w.if-kind-eq-NOT.true, w.not-is) | op-else-kind-eq-NOT w ↦ inr (w.if-kind-eq-NOT.false, w.not-is) ]) (elim c.if-kind-eq-NOT-2.branch [ op-then-kind-eq-NOT-2 w ↦ inl (w.if-kind-eq-NOT-2.true, seen_as w.peek-word.ensures refl w.word-is) | op-else-kind-eq-NOT-2 w ↦ inr (w.if-kind-eq-NOT-2.false, w.word-is) ]) in (let n : c.if-kind-eq-NOT.not ≤ 1 = omega arith in let s : Seen c.args.lists.now (c.args.at + c.if-kind-eq-NOT.not) c.if-kind-eq-NOT-2.word = elim c.if-kind-eq-NOT.branch [ op-then-kind-eq-NOT v ↦ elim c.if-kind-eq-NOT-2.branch [ op-then-kind-eq-NOT-2 w ↦ seen_as w.peek-word.ensures (omega arith) w.word-is | op-else-kind-eq-NOT-2 w ↦ absurd (omega arith) ] | op-else-kind-eq-NOT v ↦ elim c.if-kind-eq-NOT-2.branch [ op-then-kind-eq-NOT-2 w ↦ absurd (omega arith) | op-else-kind-eq-NOT-2 w ↦ seen_as c.requires.2 (omega arith) w.word-is ] ] in null_before c.notnull.ensures.0 (λ e. omega (arith)) (omega (arith)), λ s pre b. record { does = λ a p. op_null a s pre c.requires.2 way c.if-not-eq1.true c.in_default.in_default-own.rest.0.0.1 c.in_default.in_default-own.rest.0.1 c.in_default.in_default-own.rest.1 (c.notnull.ensures.1 pre b) })
 
 pub op-overflow_sub-made : goal.op-overflow_sub-made
 op-overflow_sub-made t c = omega (arith, c.requires, c.if-not-eq1.false, c.if-kind-lt-NOT.false)
@@ -836,22 +809,22 @@ pub op-emit-m-requires : goal.op-emit-m-requires
 op-emit-m-requires t c = omega (arith, c.requires, c.if-not-eq1.false, c.if-kind-lt-NOT.false)
 
 pub op-returns-in-38 : goal.op-returns-in-38
-op-returns-in-38 t c = let way : Way c.args.lists.now c.args.at c.args.kind c.if-kind-eq-NOT.not c.if-kind-eq-NOT-2.word = way_of c.args.at (elim c.if-kind-eq-NOT.branch [ op-then-kind-eq-NOT w ↦ inl (w.if-kind-eq-NOT.true, w.not-is) | op-else-kind-eq-NOT w ↦ inr (w.if-kind-eq-NOT.false, w.not-is) ]) (elim c.if-kind-eq-NOT-2.branch [ op-then-kind-eq-NOT-2 w ↦ inl (w.if-kind-eq-NOT-2.true, seen_as w.peek-word.ensures refl w.word-is) | op-else-kind-eq-NOT-2 w ↦ inr (w.if-kind-eq-NOT-2.false, w.word-is) ]) in (further c.among.ensures.0 (omega (arith, c.requires, c.if-kind-lt-NOT.false)), λ s pre b. record { does = λ a p. op_inside a s pre c.requires.3 (omega (arith, c.if-kind-lt-NOT.false)) way c.in-38.is ((c.among.ensures.1 s pre b).does a p) })
+op-returns-in-38 t c = let way : Way c.args.lists.now c.args.at c.args.kind c.if-kind-eq-NOT.not c.if-kind-eq-NOT-2.word = way_of c.args.at (elim c.if-kind-eq-NOT.branch [ op-then-kind-eq-NOT w ↦ inl (w.if-kind-eq-NOT.true, w.not-is) | op-else-kind-eq-NOT w ↦ inr (w.if-kind-eq-NOT.false, w.not-is) ]) (elim c.if-kind-eq-NOT-2.branch [ op-then-kind-eq-NOT-2 w ↦ inl (w.if-kind-eq-NOT-2.true, seen_as w.peek-word.ensures refl w.word-is) | op-else-kind-eq-NOT-2 w ↦ inr (w.if-kind-eq-NOT-2.false, w.word-is) ]) in (further c.among.ensures.0 (omega (arith, c.requires, c.if-kind-lt-NOT.false)), λ s pre b. record { does = λ a p. op_inside a s pre c.requires.2 (omega (arith, c.if-kind-lt-NOT.false)) way c.in-38.is ((c.among.ensures.1 s pre b).does a p) })
 
 pub op-returns-in-39 : goal.op-returns-in-39
-op-returns-in-39 t c = let way : Way c.args.lists.now c.args.at c.args.kind c.if-kind-eq-NOT.not c.if-kind-eq-NOT-2.word = way_of c.args.at (elim c.if-kind-eq-NOT.branch [ op-then-kind-eq-NOT w ↦ inl (w.if-kind-eq-NOT.true, w.not-is) | op-else-kind-eq-NOT w ↦ inr (w.if-kind-eq-NOT.false, w.not-is) ]) (elim c.if-kind-eq-NOT-2.branch [ op-then-kind-eq-NOT-2 w ↦ inl (w.if-kind-eq-NOT-2.true, seen_as w.peek-word.ensures refl w.word-is) | op-else-kind-eq-NOT-2 w ↦ inr (w.if-kind-eq-NOT-2.false, w.word-is) ]) in (further c.range.ensures.0 (omega (arith, c.requires, c.if-kind-lt-NOT.false)), λ s pre b. record { does = λ a p. op_between a s pre c.requires.3 (omega (arith, c.if-kind-lt-NOT.false)) way c.in-39.is ((c.range.ensures.1 s pre b).does a p) })
+op-returns-in-39 t c = let way : Way c.args.lists.now c.args.at c.args.kind c.if-kind-eq-NOT.not c.if-kind-eq-NOT-2.word = way_of c.args.at (elim c.if-kind-eq-NOT.branch [ op-then-kind-eq-NOT w ↦ inl (w.if-kind-eq-NOT.true, w.not-is) | op-else-kind-eq-NOT w ↦ inr (w.if-kind-eq-NOT.false, w.not-is) ]) (elim c.if-kind-eq-NOT-2.branch [ op-then-kind-eq-NOT-2 w ↦ inl (w.if-kind-eq-NOT-2.true, seen_as w.peek-word.ensures refl w.word-is) | op-else-kind-eq-NOT-2 w ↦ inr (w.if-kind-eq-NOT-2.false, w.word-is) ]) in (further c.range.ensures.0 (omega (arith, c.requires, c.if-kind-lt-NOT.false)), λ s pre b. record { does = λ a p. op_between a s pre c.requires.2 (omega (arith, c.if-kind-lt-NOT.false)) way c.in-39.is ((c.range.ensures.1 s pre b).does a p) })
 
 pub op-returns-in-40 : goal.op-returns-in-40
-op-returns-in-40 t c = let way : Way c.args.lists.now c.args.at c.args.kind c.if-kind-eq-NOT.not c.if-kind-eq-NOT-2.word = way_of c.args.at (elim c.if-kind-eq-NOT.branch [ op-then-kind-eq-NOT w ↦ inl (w.if-kind-eq-NOT.true, w.not-is) | op-else-kind-eq-NOT w ↦ inr (w.if-kind-eq-NOT.false, w.not-is) ]) (elim c.if-kind-eq-NOT-2.branch [ op-then-kind-eq-NOT-2 w ↦ inl (w.if-kind-eq-NOT-2.true, seen_as w.peek-word.ensures refl w.word-is) | op-else-kind-eq-NOT-2 w ↦ inr (w.if-kind-eq-NOT-2.false, w.word-is) ]) in (further c.binary-in-40.ensures.0 (omega (arith, c.requires, c.if-kind-lt-NOT.false)), λ s pre b. record { does = λ a p. op_like a s pre c.requires.3 (omega (arith, c.if-kind-lt-NOT.false)) way c.in-40.is _ c.text.ensures ((c.binary-in-40.ensures.1 s pre b).does a p) })
+op-returns-in-40 t c = let way : Way c.args.lists.now c.args.at c.args.kind c.if-kind-eq-NOT.not c.if-kind-eq-NOT-2.word = way_of c.args.at (elim c.if-kind-eq-NOT.branch [ op-then-kind-eq-NOT w ↦ inl (w.if-kind-eq-NOT.true, w.not-is) | op-else-kind-eq-NOT w ↦ inr (w.if-kind-eq-NOT.false, w.not-is) ]) (elim c.if-kind-eq-NOT-2.branch [ op-then-kind-eq-NOT-2 w ↦ inl (w.if-kind-eq-NOT-2.true, seen_as w.peek-word.ensures refl w.word-is) | op-else-kind-eq-NOT-2 w ↦ inr (w.if-kind-eq-NOT-2.false, w.word-is) ]) in (further c.binary-in-40.ensures.0 (omega (arith, c.requires, c.if-kind-lt-NOT.false)), λ s pre b. record { does = λ a p. op_like a s pre c.requires.2 (omega (arith, c.if-kind-lt-NOT.false)) way c.in-40.is _ c.text.ensures ((c.binary-in-40.ensures.1 s pre b).does a p) })
 
 pub op-returns-after-peek-eq-NOT : goal.op-returns-after-peek-eq-NOT
-op-returns-after-peek-eq-NOT t c = let way : Way c.args.lists.now c.args.at c.args.kind c.if-kind-eq-NOT.not c.if-kind-eq-NOT-2.word = way_of c.args.at (elim c.if-kind-eq-NOT.branch [ op-then-kind-eq-NOT w ↦ inl (w.if-kind-eq-NOT.true, w.not-is) | op-else-kind-eq-NOT w ↦ inr (w.if-kind-eq-NOT.false, w.not-is) ]) (elim c.if-kind-eq-NOT-2.branch [ op-then-kind-eq-NOT-2 w ↦ inl (w.if-kind-eq-NOT-2.true, seen_as w.peek-word.ensures refl w.word-is) | op-else-kind-eq-NOT-2 w ↦ inr (w.if-kind-eq-NOT-2.false, w.word-is) ]) in (further c.binary-in-37.ensures.0 (omega (arith, c.requires, c.peek.ensures, c.if-not-eq1.false, c.if-kind-lt-NOT.false)), λ s pre b. record { does = λ a p. op_is a s pre c.requires.3 (omega (arith, c.if-kind-lt-NOT.false)) way c.if-not-eq1.false c.in_default.in_default-own.rest.0.0.1 c.in_default.in_default-own.rest.0.1 c.in_default.in_default-own.rest.1 c.in-37.is c.if-peek-eq-NOT.isnot _ c.peek.ensures (elim c.if-peek-eq-NOT.branch [ op-then-peek-eq-NOT w ↦ inl (w.if-peek-eq-NOT.true, w.isnot-is) | op-else-peek-eq-NOT w ↦ inr (w.if-peek-eq-NOT.false, w.isnot-is) ]) ((c.binary-in-37.ensures.1 s pre b).does a p) })
+op-returns-after-peek-eq-NOT t c = let way : Way c.args.lists.now c.args.at c.args.kind c.if-kind-eq-NOT.not c.if-kind-eq-NOT-2.word = way_of c.args.at (elim c.if-kind-eq-NOT.branch [ op-then-kind-eq-NOT w ↦ inl (w.if-kind-eq-NOT.true, w.not-is) | op-else-kind-eq-NOT w ↦ inr (w.if-kind-eq-NOT.false, w.not-is) ]) (elim c.if-kind-eq-NOT-2.branch [ op-then-kind-eq-NOT-2 w ↦ inl (w.if-kind-eq-NOT-2.true, seen_as w.peek-word.ensures refl w.word-is) | op-else-kind-eq-NOT-2 w ↦ inr (w.if-kind-eq-NOT-2.false, w.word-is) ]) in (further c.binary-in-37.ensures.0 (omega (arith, c.requires, c.peek.ensures, c.if-not-eq1.false, c.if-kind-lt-NOT.false)), λ s pre b. record { does = λ a p. op_is a s pre c.requires.2 (omega (arith, c.if-kind-lt-NOT.false)) way c.if-not-eq1.false c.in_default.in_default-own.rest.0.0.1 c.in_default.in_default-own.rest.0.1 c.in_default.in_default-own.rest.1 c.in-37.is c.if-peek-eq-NOT.isnot _ c.peek.ensures (elim c.if-peek-eq-NOT.branch [ op-then-peek-eq-NOT w ↦ inl (w.if-peek-eq-NOT.true, w.isnot-is) | op-else-peek-eq-NOT w ↦ inr (w.if-peek-eq-NOT.false, w.isnot-is) ]) ((c.binary-in-37.ensures.1 s pre b).does a p) })
 
 pub op-returns-in-43 : goal.op-returns-in-43
-op-returns-in-43 t c = let way : Way c.args.lists.now c.args.at c.args.kind c.if-kind-eq-NOT.not c.if-kind-eq-NOT-2.word = way_of c.args.at (elim c.if-kind-eq-NOT.branch [ op-then-kind-eq-NOT w ↦ inl (w.if-kind-eq-NOT.true, w.not-is) | op-else-kind-eq-NOT w ↦ inr (w.if-kind-eq-NOT.false, w.not-is) ]) (elim c.if-kind-eq-NOT-2.branch [ op-then-kind-eq-NOT-2 w ↦ inl (w.if-kind-eq-NOT-2.true, seen_as w.peek-word.ensures refl w.word-is) | op-else-kind-eq-NOT-2 w ↦ inr (w.if-kind-eq-NOT-2.false, w.word-is) ]) in (further c.collate.ensures.0 (omega (arith, c.requires, c.if-not-eq1.false, c.if-kind-lt-NOT.false)), λ s pre b. record { does = λ a p. op_collate a s pre c.requires.3 (omega (arith, c.if-kind-lt-NOT.false)) way c.if-not-eq1.false c.in_default.in_default-own.rest.0.0.1 c.in_default.in_default-own.rest.0.1 c.in_default.in_default-own.rest.1 c.in-43.is (c.collate.ensures.1 pre b) })
+op-returns-in-43 t c = let way : Way c.args.lists.now c.args.at c.args.kind c.if-kind-eq-NOT.not c.if-kind-eq-NOT-2.word = way_of c.args.at (elim c.if-kind-eq-NOT.branch [ op-then-kind-eq-NOT w ↦ inl (w.if-kind-eq-NOT.true, w.not-is) | op-else-kind-eq-NOT w ↦ inr (w.if-kind-eq-NOT.false, w.not-is) ]) (elim c.if-kind-eq-NOT-2.branch [ op-then-kind-eq-NOT-2 w ↦ inl (w.if-kind-eq-NOT-2.true, seen_as w.peek-word.ensures refl w.word-is) | op-else-kind-eq-NOT-2 w ↦ inr (w.if-kind-eq-NOT-2.false, w.word-is) ]) in (further c.collate.ensures.0 (omega (arith, c.requires, c.if-not-eq1.false, c.if-kind-lt-NOT.false)), λ s pre b. record { does = λ a p. op_collate a s pre c.requires.2 (omega (arith, c.if-kind-lt-NOT.false)) way c.if-not-eq1.false c.in_default.in_default-own.rest.0.0.1 c.in_default.in_default-own.rest.0.1 c.in_default.in_default-own.rest.1 c.in-43.is (c.collate.ensures.1 pre b) })
 
 pub op-returns-in_default-kind : goal.op-returns-in_default-kind
-op-returns-in_default-kind t c = let way : Way c.args.lists.now c.args.at c.args.kind c.if-kind-eq-NOT.not c.if-kind-eq-NOT-2.word = way_of c.args.at (elim c.if-kind-eq-NOT.branch [ op-then-kind-eq-NOT w ↦ inl (w.if-kind-eq-NOT.true, w.not-is) | op-else-kind-eq-NOT w ↦ inr (w.if-kind-eq-NOT.false, w.not-is) ]) (elim c.if-kind-eq-NOT-2.branch [ op-then-kind-eq-NOT-2 w ↦ inl (w.if-kind-eq-NOT-2.true, seen_as w.peek-word.ensures refl w.word-is) | op-else-kind-eq-NOT-2 w ↦ inr (w.if-kind-eq-NOT-2.false, w.word-is) ]) in (let n : c.if-kind-eq-NOT.not ≤ 1 = omega arith in ended c.got.ensures (omega (arith)), λ s pre b. record { does = λ a p. op_postfix a s pre c.requires.3 (omega (arith, c.if-kind-lt-NOT.false)) way c.if-not-eq1.false c.in_default.in_default-own.rest.0.0.1 c.in_default.in_default-own.rest.0.1 c.in_default.in_default-own.rest.1 c.in_default-kind.in_default-kind-own.rest.0.1 c.in_default-kind.in_default-kind-own.rest.1 (laid c.got.ensures refl (closed _ pre b c.emit-m.ensures.1)) })
+op-returns-in_default-kind t c = let way : Way c.args.lists.now c.args.at c.args.kind c.if-kind-eq-NOT.not c.if-kind-eq-NOT-2.word = way_of c.args.at (elim c.if-kind-eq-NOT.branch [ op-then-kind-eq-NOT w ↦ inl (w.if-kind-eq-NOT.true, w.not-is) | op-else-kind-eq-NOT w ↦ inr (w.if-kind-eq-NOT.false, w.not-is) ]) (elim c.if-kind-eq-NOT-2.branch [ op-then-kind-eq-NOT-2 w ↦ inl (w.if-kind-eq-NOT-2.true, seen_as w.peek-word.ensures refl w.word-is) | op-else-kind-eq-NOT-2 w ↦ inr (w.if-kind-eq-NOT-2.false, w.word-is) ]) in (let n : c.if-kind-eq-NOT.not ≤ 1 = omega arith in ended c.got.ensures (omega (arith)), λ s pre b. record { does = λ a p. op_postfix a s pre c.requires.2 (omega (arith, c.if-kind-lt-NOT.false)) way c.if-not-eq1.false c.in_default.in_default-own.rest.0.0.1 c.in_default.in_default-own.rest.0.1 c.in_default.in_default-own.rest.1 c.in_default-kind.in_default-kind-own.rest.0.1 c.in_default-kind.in_default-kind-own.rest.1 (laid c.got.ensures refl (closed _ pre b c.emit-m.ensures.1)) })
 
 -- ── operand ──
 pub operand-overflow_add-at : goal.operand-overflow_add-at
@@ -898,19 +871,19 @@ operand-sign-requires t c = omega arith
 
 pub operand-returns-in-12 : goal.operand-returns-in-12
 unfolding expr_w
-operand-returns-in-12 t c = (further c.paren.ensures.0 (omega arith), λ s. record { does = λ a p. next (c.paren.ensures.1.does (deeper a) (c.deeper.ensures.1.packs a s p)) (λ f h. took _ _ _ (is c.requires.2 c.in-12.is) (h)) })
+operand-returns-in-12 t c = (further c.paren.ensures.0 (omega arith), λ s. record { does = λ a p. next (c.paren.ensures.1.does (deeper a) (c.deeper.ensures.packs a s p)) (λ f h. took _ _ _ (is c.requires.2 c.in-12.is) (h)) })
 
 pub operand-returns-in-44 : goal.operand-returns-in-44
 unfolding expr_w
-operand-returns-in-44 t c = (further c.case.ensures.0 (omega arith), λ s. record { does = λ a p. next (c.case.ensures.1.does (deeper a) (c.deeper-in-44.ensures.1.packs a s p)) (λ f h. left _ _ _ (differs _ c.requires.2 c.in-44.is refl) (took _ _ _ (is c.requires.2 c.in-44.is) (h))) })
+operand-returns-in-44 t c = (further c.case.ensures.0 (omega arith), λ s. record { does = λ a p. next (c.case.ensures.1.does (deeper a) (c.deeper-in-44.ensures.packs a s p)) (λ f h. left _ _ _ (differs _ c.requires.2 c.in-44.is refl) (took _ _ _ (is c.requires.2 c.in-44.is) (h))) })
 
 pub operand-returns-in-49 : goal.operand-returns-in-49
 unfolding expr_w
-operand-returns-in-49 t c = (further c.cast.ensures.0 (omega arith), λ s. record { does = λ a p. next (c.cast.ensures.1.does (deeper a) (c.deeper-in-49.ensures.1.packs a s p)) (λ f h. left _ _ _ (differs _ c.requires.2 c.in-49.is refl) (left _ _ _ (differs _ c.requires.2 c.in-49.is refl) (took _ _ _ (is c.requires.2 c.in-49.is) (h)))) })
+operand-returns-in-49 t c = (further c.cast.ensures.0 (omega arith), λ s. record { does = λ a p. next (c.cast.ensures.1.does (deeper a) (c.deeper-in-49.ensures.packs a s p)) (λ f h. left _ _ _ (differs _ c.requires.2 c.in-49.is refl) (left _ _ _ (differs _ c.requires.2 c.in-49.is refl) (took _ _ _ (is c.requires.2 c.in-49.is) (h)))) })
 
 pub operand-returns-in-51 : goal.operand-returns-in-51
 unfolding expr_w
-operand-returns-in-51 t c = (further c.exists.ensures.0 (omega arith), λ s. record { does = λ a p. next (c.exists.ensures.1.does (deeper a) (c.deeper-in-51.ensures.1.packs a s p)) (λ f h. left _ _ _ (differs _ c.requires.2 c.in-51.is refl) (left _ _ _ (differs _ c.requires.2 c.in-51.is refl) (left _ _ _ (differs _ c.requires.2 c.in-51.is refl) (took _ _ _ (is c.requires.2 c.in-51.is) (h))))) })
+operand-returns-in-51 t c = (further c.exists.ensures.0 (omega arith), λ s. record { does = λ a p. next (c.exists.ensures.1.does (deeper a) (c.deeper-in-51.ensures.packs a s p)) (λ f h. left _ _ _ (differs _ c.requires.2 c.in-51.is refl) (left _ _ _ (differs _ c.requires.2 c.in-51.is refl) (left _ _ _ (differs _ c.requires.2 c.in-51.is refl) (took _ _ _ (is c.requires.2 c.in-51.is) (h))))) })
 
 pub operand-returns-in_default : goal.operand-returns-in_default
 unfolding expr_w
@@ -921,12 +894,12 @@ unfolding expr_w
 operand-returns-in-36 t c = (further c.sign.ensures.0 (omega arith), let q : Sign c.args.kind = sign_is c.args.kind (elim c.in-36-1.branch [ operand-in-27-1 w ↦ inl w.in-27-1.keys5 | operand-in_default+else-kind-lt18+then-kind-lt20 w ↦ inr (omega arith, omega arith) ]) in λ s. record { does = λ a p. next ((c.sign.ensures.1 s).does a p) (λ f h. left _ _ _ (by_kind (λ k. eqb k 12) c.requires.2 q.paren) (left _ _ _ (by_kind (λ k. eqb k 44) c.requires.2 q.case) (left _ _ _ (by_kind (λ k. eqb k 49) c.requires.2 q.cast) (left _ _ _ (by_kind (λ k. eqb k 51) c.requires.2 q.exists) (took _ _ _ (by_kind (λ k. ltb 0 (prefix_of k)) c.requires.2 q.some) h))))) })
 
 -- ── ops ──
-pub ops-loop-kind-init : goal.ops-loop-kind-init
+pub ops-loop-ask-init : goal.ops-loop-ask-init
 unfolding expr_w
-ops-loop-kind-init t c = (omega arith, λ a s pre p b r N l. so l (λ f h. h pre b))
+ops-loop-ask-init t c = (omega arith, λ a s pre p b r N l. so l (λ f h. h pre b))
 
 pub ops-overflow_add-k : goal.ops-overflow_add-k
-ops-overflow_add-k t c = omega (arith, c.requires, c.if-left-k.false, c.if-k-s.false, c.if-k-eq0.false, c.peek-kind.ensures, c.loop-kind.invariant)
+ops-overflow_add-k t c = omega (arith, c.requires, c.if-left-k.false, c.if-k-s.false, c.if-k-eq0.false, c.peek-kind.ensures, c.loop-ask.invariant)
 
 pub ops-deeper-requires : goal.ops-deeper-requires
 ops-deeper-requires t c = let s : c.strength-k.result ≤ 10 = rw c.strength-k.ensures (strength_small _) in omega (arith)
@@ -936,24 +909,24 @@ ops-op-r-requires t c = let k : 0 < c.peek-kind.result = strength_is _ (rw (← 
 
 pub ops-returns-in_default : goal.ops-returns-in_default
 unfolding expr_w
-ops-returns-in_default t c = (passed_on c.op-r.ensures.0 c.in_default.is, λ s pre b. record { does = λ a p. c.loop-kind.invariant.1 a s pre p b _ _ (next (for_any _ _ (λ pre e. (c.op-r.ensures.1 (c.strength-k.result + 1) pre e).does (deeper a) (c.deeper.ensures.1.packs a s p)) (omega (arith, c.requires, c.loop-kind.invariant.0))) (λ f h z e. ops_walk f a s c.loop-kind.left z c.peek-kind.ensures c.strength-k.ensures (left _ _ _ (ne_eqb _ _ c.if-k-eq0.false) (left _ _ _ (le-ltb c.strength-k.result s (omega (arith, (c.asked-s.ensures ∙ strength_of p), c.if-k-s.false))) (left _ _ _ (le-ltb c.loop-kind.left c.strength-k.result c.if-left-k.false) (halts _ _ (h z e) c.in_default.is)))))) })
+ops-returns-in_default t c = (passed_on c.op-r.ensures.0 c.in_default.is, λ s pre b. record { does = λ a p. c.loop-ask.invariant.1 a s pre p b _ _ (next (for_any _ _ (λ pre e. (c.op-r.ensures.1 (c.strength-k.result + 1) pre e).does (deeper a) (c.deeper.ensures.packs a s p)) (omega (arith, c.requires, c.loop-ask.invariant.0))) (λ f h z e. ops_walk f a s c.loop-ask.left z c.peek-kind.ensures c.strength-k.ensures (left _ _ _ (ne_eqb _ _ c.if-k-eq0.false) (left _ _ _ (le-ltb c.strength-k.result s (omega (arith, (c.strength-s.ensures ∙ strength_of p), c.if-k-s.false))) (left _ _ _ (le-ltb c.loop-ask.left c.strength-k.result c.if-left-k.false) (halts _ _ (h z e) c.in_default.is)))))) })
 
 pub ops-overflow_cast-said : goal.ops-overflow_cast-said
 ops-overflow_cast-said t c = omega (arith, got_in c.op-r.ensures.0 c.in-Got.is)
 
-pub ops-loop-kind-smaller : goal.ops-loop-kind-smaller
-ops-loop-kind-smaller t c = omega (arith, got_in c.op-r.ensures.0 c.in-Got.is, c.requires, c.if-left-k.false, c.if-k-s.false, c.if-k-eq0.false, c.peek-kind.ensures, c.loop-kind.invariant)
+pub ops-loop-ask-smaller : goal.ops-loop-ask-smaller
+ops-loop-ask-smaller t c = omega (arith, got_in c.op-r.ensures.0 c.in-Got.is, c.requires, c.if-left-k.false, c.if-k-s.false, c.if-k-eq0.false, c.peek-kind.ensures, c.loop-ask.invariant)
 
-pub ops-loop-kind-preserved : goal.ops-loop-kind-preserved
+pub ops-loop-ask-preserved : goal.ops-loop-ask-preserved
 unfolding expr_w
-ops-loop-kind-preserved t c = (omega (arith, got_in c.op-r.ensures.0 c.in-Got.is, c.least-left.ensures, c.requires, c.if-left-k.false, c.if-k-s.false, c.if-k-eq0.false, c.peek-kind.ensures, c.loop-kind.invariant.0), λ a s pre p b r N l. c.loop-kind.invariant.1 a s pre p b r N (next (for_any _ _ (λ pre e. (c.op-r.ensures.1 (c.strength-k.result + 1) pre e).does (deeper a) (c.deeper.ensures.1.packs a s p)) (omega (arith, c.requires, c.loop-kind.invariant.0)) also l) (λ f h z e. ops_goes f a s c.loop-kind.left z c.peek-kind.ensures c.strength-k.ensures c.least-left.ensures (ne_eqb _ _ c.if-k-eq0.false) (le-ltb c.strength-k.result s (omega (arith, (c.asked-s.ensures ∙ strength_of p), c.if-k-s.false))) (le-ltb c.loop-kind.left c.strength-k.result c.if-left-k.false) (h.0 z e) c.in-Got.is (λ rs F. h.1 (z + length rs) (let g = F.counted in omega (arith, e, g))))))
+ops-loop-ask-preserved t c = (omega (arith, got_in c.op-r.ensures.0 c.in-Got.is, c.least-left.ensures, c.requires, c.if-left-k.false, c.if-k-s.false, c.if-k-eq0.false, c.peek-kind.ensures, c.loop-ask.invariant.0), λ a s pre p b r N l. c.loop-ask.invariant.1 a s pre p b r N (next (for_any _ _ (λ pre e. (c.op-r.ensures.1 (c.strength-k.result + 1) pre e).does (deeper a) (c.deeper.ensures.packs a s p)) (omega (arith, c.requires, c.loop-ask.invariant.0)) also l) (λ f h z e. ops_goes f a s c.loop-ask.left z c.peek-kind.ensures c.strength-k.ensures c.least-left.ensures (ne_eqb _ _ c.if-k-eq0.false) (le-ltb c.strength-k.result s (omega (arith, (c.strength-s.ensures ∙ strength_of p), c.if-k-s.false))) (le-ltb c.loop-ask.left c.strength-k.result c.if-left-k.false) (h.0 z e) c.in-Got.is (λ rs F. h.1 (z + length rs) (let g = F.counted in omega (arith, e, g))))))
 
 pub ops-overflow_cast-left : goal.ops-overflow_cast-left
 ops-overflow_cast-left t c = omega arith
 
 pub ops-returns : goal.ops-returns
 unfolding expr_w
-ops-returns t c = (ended c.got.ensures (omega arith), λ s pre b. record { does = λ a p. c.loop-kind.invariant.1 a s pre p b _ _ (at_once (λ f z e. ops_walk f a s c.loop-kind.left z c.peek-kind.ensures c.strength-k.ensures (elim c.if-k-eq0.branch [ ops-then-k-eq0 w ↦ took _ _ _ (eqb-true _ _ w.if-k-eq0.true) (laid c.got.ensures refl (nothing)) | ops-else-k-eq0+then-k-s w ↦ left _ _ _ (ne_eqb _ _ w.if-k-eq0.false) (took _ _ _ (lt-ltb c.strength-k.result s (omega (arith, (c.asked-s.ensures ∙ strength_of p), w.if-k-s.true))) (laid c.got.ensures refl (nothing))) | ops-else-k-eq0+else-k-s+then-left-k w ↦ left _ _ _ (ne_eqb _ _ w.if-k-eq0.false) (left _ _ _ (le-ltb c.strength-k.result s (omega (arith, (c.asked-s.ensures ∙ strength_of p), w.if-k-s.false))) (took _ _ _ (lt-ltb c.loop-kind.left c.strength-k.result w.if-left-k.true) (laid c.got.ensures refl (nothing)))) ]))) })
+ops-returns t c = (ended c.got.ensures (omega arith), λ s pre b. record { does = λ a p. c.loop-ask.invariant.1 a s pre p b _ _ (at_once (λ f z e. ops_walk f a s c.loop-ask.left z c.peek-kind.ensures c.strength-k.ensures (elim c.if-k-eq0.branch [ ops-then-k-eq0 w ↦ took _ _ _ (eqb-true _ _ w.if-k-eq0.true) (laid c.got.ensures refl (nothing)) | ops-else-k-eq0+then-k-s w ↦ left _ _ _ (ne_eqb _ _ w.if-k-eq0.false) (took _ _ _ (lt-ltb c.strength-k.result s (omega (arith, (c.strength-s.ensures ∙ strength_of p), w.if-k-s.true))) (laid c.got.ensures refl (nothing))) | ops-else-k-eq0+else-k-s+then-left-k w ↦ left _ _ _ (ne_eqb _ _ w.if-k-eq0.false) (left _ _ _ (le-ltb c.strength-k.result s (omega (arith, (c.strength-s.ensures ∙ strength_of p), w.if-k-s.false))) (took _ _ _ (lt-ltb c.loop-ask.left c.strength-k.result w.if-left-k.true) (laid c.got.ensures refl (nothing)))) ]))) })
 
 -- ── paren ──
 pub paren-sub-requires : goal.paren-sub-requires
@@ -1017,18 +990,9 @@ pub query-returns-in_default : goal.query-returns-in_default
 unfolding expr_w
 query-returns-in_default t c = (passed_on c.body-b.ensures.0 c.in_default.is, record { does = λ a p. next (c.body-b.ensures.2.does a p) (λ f h. halts _ _ h c.in_default.is) })
 
-pub query-overflow_add-ask : goal.query-overflow_add-ask
-query-overflow_add-ask t c = omega (arith, got_in c.body-b.ensures.0 c.in-Got.is, opens_in c.body-b.ensures.1 c.in-Got.is, c.requires)
-
-pub query-overflow_add-ask-2 : goal.query-overflow_add-ask-2
-query-overflow_add-ask-2 t c = omega (arith, got_in c.body-b.ensures.0 c.in-Got.is, opens_in c.body-b.ensures.1 c.in-Got.is, c.requires)
-
-pub query-tail-t-requires : goal.query-tail-t-requires
-query-tail-t-requires t c = let q : queries_of c.args.ask < 16 = opens_in c.body-b.ensures.1 c.in-Got.is in let o : Asks 66 (c.args.ask + 16 + 1) = opening _ c.requires.1 c.requires.2 q in omega (arith, got_in c.body-b.ensures.0 c.in-Got.is, opens_in c.body-b.ensures.1 c.in-Got.is)
-
 pub query-returns-in_default-t : goal.query-returns-in_default-t
 unfolding expr_w
-query-returns-in_default-t t c = (passed_on c.tail-t.ensures.0 c.in_default-t.is, record { does = λ a p. next (c.body-b.ensures.2.does a p also c.tail-t.ensures.1.does _ (query_opened p refl (omega (arith, queries_of_lem p, opens_in c.body-b.ensures.1 c.in-Got.is)))) (λ f h. goes _ _ h.0 c.in-Got.is (λ rs F. halts _ _ h.1 c.in_default-t.is)) })
+query-returns-in_default-t t c = (passed_on c.tail-t.ensures.0 c.in_default-t.is, record { does = λ a p. next (c.body-b.ensures.2.does a p also c.tail-t.ensures.1.does _ (c.opened.ensures.opens _ p (omega (arith, queries_of_lem p, opens_in c.body-b.ensures.1 c.in-Got.is)))) (λ f h. goes _ _ h.0 c.in-Got.is (λ rs F. halts _ _ h.1 c.in_default-t.is)) })
 
 pub query-overflow_sub-d : goal.query-overflow_sub-d
 query-overflow_sub-d t c = omega (arith, got_in c.tail-t.ensures.0 c.in-Got-t.is, got_in c.body-b.ensures.0 c.in-Got.is, opens_in c.body-b.ensures.1 c.in-Got.is, c.requires)
@@ -1041,7 +1005,7 @@ query-emit-m-requires t c = omega (arith, got_in c.tail-t.ensures.0 c.in-Got-t.i
 
 pub query-returns : goal.query-returns
 unfolding expr_w
-query-returns t c = (ended c.got.ensures (omega (arith, got_in c.tail-t.ensures.0 c.in-Got-t.is, got_in c.body-b.ensures.0 c.in-Got.is, opens_in c.body-b.ensures.1 c.in-Got.is, c.requires, c.emit-m.ensures.0)), record { does = λ a p. next (c.body-b.ensures.2.does a p also c.tail-t.ensures.1.does _ (query_opened p refl (omega (arith, queries_of_lem p, opens_in c.body-b.ensures.1 c.in-Got.is)))) (λ f h. goes _ _ h.0 c.in-Got.is (λ rs F. goes _ _ h.1 c.in-Got-t.is (λ qs G. laid c.got.ensures refl (topped (F then G) c.emit-m.ensures.1)))) })
+query-returns t c = (ended c.got.ensures (omega (arith, got_in c.tail-t.ensures.0 c.in-Got-t.is, got_in c.body-b.ensures.0 c.in-Got.is, opens_in c.body-b.ensures.1 c.in-Got.is, c.requires, c.emit-m.ensures.0)), record { does = λ a p. next (c.body-b.ensures.2.does a p also c.tail-t.ensures.1.does _ (c.opened.ensures.opens _ p (omega (arith, queries_of_lem p, opens_in c.body-b.ensures.1 c.in-Got.is)))) (λ f h. goes _ _ h.0 c.in-Got.is (λ rs F. goes _ _ h.1 c.in-Got-t.is (λ qs G. laid c.got.ensures refl (topped (F then G) c.emit-m.ensures.1)))) })
 
 -- ── range ──
 pub range-expr-low-requires : goal.range-expr-low-requires
@@ -1213,9 +1177,9 @@ select-returns t c = (ended c.got.ensures (omega (arith, got_in c.parts-f.ensure
 pub sign-wrong-requires : goal.sign-wrong-requires
 sign-wrong-requires t c = omega arith
 
-pub sign-returns-then-asked-gt-NOT_STANDS : goal.sign-returns-then-asked-gt-NOT_STANDS
+pub sign-returns-then-strength-gt-NOT_STANDS : goal.sign-returns-then-strength-gt-NOT_STANDS
 unfolding expr_w
-sign-returns-then-asked-gt-NOT_STANDS t c = (refused c.wrong.ensures.0 (omega arith), λ s. record { does = λ a p. at_once (λ f. prefix_walk f a s c.requires.3 c.prefix-p.ensures (took _ _ _ (both_i _ _ (eqb-true _ _ c.if-kind-eq-NOT.true) (lt-ltb 10 s (omega (arith, strength_of p, c.asked.ensures, c.if-asked-gt-NOT_STANDS.true)))) (said c.wrong.ensures.1 refl))) })
+sign-returns-then-strength-gt-NOT_STANDS t c = (refused c.wrong.ensures.0 (omega arith), λ s. record { does = λ a p. at_once (λ f. prefix_walk f a s c.requires.3 c.prefix-p.ensures (took _ _ _ (both_i _ _ (eqb-true _ _ c.if-kind-eq-NOT.true) (lt-ltb 10 s (omega (arith, strength_of p, c.strength.ensures, c.if-strength-gt-NOT_STANDS.true)))) (said c.wrong.ensures.1 refl))) })
 
 pub sign-overflow_add-at : goal.sign-overflow_add-at
 sign-overflow_add-at t c = omega arith
@@ -1228,7 +1192,7 @@ sign-expr-r-requires t c = omega arith
 
 pub sign-returns-in_default : goal.sign-returns-in_default
 unfolding expr_w
-sign-returns-in_default t c = (passed_on c.expr-r.ensures.0 c.in_default.is, λ s. record { does = λ a p. next ((c.expr-r.ensures.1 c.prefix-p.result).does (deeper a) (c.deeper.ensures.1.packs a s p)) (λ f h. prefix_walk f a s c.requires.3 c.prefix-p.ensures (left _ _ _ (elim c.if-kind-eq-NOT.branch [ sign-then-kind-eq-NOT+else-asked-gt-NOT_STANDS w ↦ no_right _ _ (le-ltb 10 s (omega (arith, strength_of p, w.asked.ensures, w.if-asked-gt-NOT_STANDS.false))) | sign-else-kind-eq-NOT w ↦ no_left _ _ (ne_eqb _ _ w.if-kind-eq-NOT.false) ]) (halts _ _ h c.in_default.is))) })
+sign-returns-in_default t c = (passed_on c.expr-r.ensures.0 c.in_default.is, λ s. record { does = λ a p. next ((c.expr-r.ensures.1 c.prefix-p.result).does (deeper a) (c.deeper.ensures.packs a s p)) (λ f h. prefix_walk f a s c.requires.3 c.prefix-p.ensures (left _ _ _ (elim c.if-kind-eq-NOT.branch [ sign-then-kind-eq-NOT+else-strength-gt-NOT_STANDS w ↦ no_right _ _ (le-ltb 10 s (omega (arith, strength_of p, w.strength.ensures, w.if-strength-gt-NOT_STANDS.false))) | sign-else-kind-eq-NOT w ↦ no_left _ _ (ne_eqb _ _ w.if-kind-eq-NOT.false) ]) (halts _ _ h c.in_default.is))) })
 
 pub sign-overflow_sub-d : goal.sign-overflow_sub-d
 sign-overflow_sub-d t c = omega (arith, got_in c.expr-r.ensures.0 c.in-Got.is, c.requires)
@@ -1247,7 +1211,7 @@ sign-overflow_cast-said t c = omega (arith, got_in c.expr-r.ensures.0 c.in-Got.i
 
 pub sign-returns : goal.sign-returns
 unfolding expr_w
-sign-returns t c = (let s : c.prefix-p.result ≤ 11 = rw c.prefix-p.ensures (prefix_small _) in ended c.got.ensures (omega (arith, c.least.ensures, got_in c.expr-r.ensures.0 c.in-Got.is, c.emit-m.ensures.0, c.requires)), λ s. record { does = λ a p. next ((c.expr-r.ensures.1 c.prefix-p.result).does (deeper a) (c.deeper.ensures.1.packs a s p)) (λ f h. prefix_walk f a s c.requires.3 c.prefix-p.ensures (left _ _ _ (elim c.if-kind-eq-NOT.branch [ sign-then-kind-eq-NOT+else-asked-gt-NOT_STANDS w ↦ no_right _ _ (le-ltb 10 s (omega (arith, strength_of p, w.asked.ensures, w.if-asked-gt-NOT_STANDS.false))) | sign-else-kind-eq-NOT w ↦ no_left _ _ (ne_eqb _ _ w.if-kind-eq-NOT.false) ]) (goes _ _ h c.in-Got.is (λ rs F. laid_as c.got.ensures c.least.ensures refl (topped F c.emit-m.ensures.1))))) })
+sign-returns t c = (let s : c.prefix-p.result ≤ 11 = rw c.prefix-p.ensures (prefix_small _) in ended c.got.ensures (omega (arith, c.least.ensures, got_in c.expr-r.ensures.0 c.in-Got.is, c.emit-m.ensures.0, c.requires)), λ s. record { does = λ a p. next ((c.expr-r.ensures.1 c.prefix-p.result).does (deeper a) (c.deeper.ensures.packs a s p)) (λ f h. prefix_walk f a s c.requires.3 c.prefix-p.ensures (left _ _ _ (elim c.if-kind-eq-NOT.branch [ sign-then-kind-eq-NOT+else-strength-gt-NOT_STANDS w ↦ no_right _ _ (le-ltb 10 s (omega (arith, strength_of p, w.strength.ensures, w.if-strength-gt-NOT_STANDS.false))) | sign-else-kind-eq-NOT w ↦ no_left _ _ (ne_eqb _ _ w.if-kind-eq-NOT.false) ]) (goes _ _ h c.in-Got.is (λ rs F. laid_as c.got.ensures c.least.ensures refl (topped F c.emit-m.ensures.1))))) })
 
 -- ── sort ──
 pub sort-wrong-requires : goal.sort-wrong-requires
@@ -1334,40 +1298,34 @@ src-returns-then-kind-ne-LP t c = (further c.table.ensures.0 (omega arith), reco
 pub src-overflow_add-at : goal.src-overflow_add-at
 src-overflow_add-at t c = omega arith
 
-pub src-asking-requires : goal.src-asking-requires
-src-asking-requires t c = omega arith
-
 pub src-query-q-requires : goal.src-query-q-requires
 src-query-q-requires t c = omega arith
 
 pub src-returns-in_default : goal.src-returns-in_default
 unfolding expr_w
-src-returns-in_default t c = (passed_on c.query-q.ensures.0 c.in_default.is, record { does = λ a p. next (c.query-q.ensures.1.does a (c.asking.ensures.3.packs a 1 p)) (λ f h. took _ _ _ (is c.peek-kind.ensures c.if-kind-ne-LP.false) (halts _ _ h c.in_default.is)) })
+src-returns-in_default t c = (passed_on c.query-q.ensures.0 c.in_default.is, record { does = λ a p. next (c.query-q.ensures.1.does a (c.with.ensures.2.packs a 1 p)) (λ f h. took _ _ _ (is c.peek-kind.ensures c.if-kind-ne-LP.false) (halts _ _ h c.in_default.is)) })
 
 pub src-lent-requires : goal.src-lent-requires
 src-lent-requires t c = omega (arith, got_in c.query-q.ensures.0 c.in-Got.is, c.requires, c.if-kind-ne-LP.false, c.peek-kind.ensures)
 
 pub src-returns : goal.src-returns
 unfolding expr_w
-src-returns t c = (further c.lent.ensures.0 (omega (arith, got_in c.query-q.ensures.0 c.in-Got.is, c.requires, c.if-kind-ne-LP.false, c.peek-kind.ensures)), record { does = λ a p. next (c.query-q.ensures.1.does a (c.asking.ensures.3.packs a 1 p)) (λ f h. took _ _ _ (is c.peek-kind.ensures c.if-kind-ne-LP.false) (goes _ _ h c.in-Got.is (λ rs F. c.lent.ensures.1 _ rs F))) })
+src-returns t c = (further c.lent.ensures.0 (omega (arith, got_in c.query-q.ensures.0 c.in-Got.is, c.requires, c.if-kind-ne-LP.false, c.peek-kind.ensures)), record { does = λ a p. next (c.query-q.ensures.1.does a (c.with.ensures.2.packs a 1 p)) (λ f h. took _ _ _ (is c.peek-kind.ensures c.if-kind-ne-LP.false) (goes _ _ h c.in-Got.is (λ rs F. c.lent.ensures.1 _ rs F))) })
 
 -- ── sub ──
-pub sub-asking-requires : goal.sub-asking-requires
-sub-asking-requires t c = omega arith
-
 pub sub-query-q-requires : goal.sub-query-q-requires
 sub-query-q-requires t c = omega arith
 
 pub sub-returns-in_default : goal.sub-returns-in_default
 unfolding expr_w
-sub-returns-in_default t c = (passed_on c.query-q.ensures.0 c.in_default.is, record { does = λ a p. next (c.query-q.ensures.1.does a (c.asking.ensures.3.packs a 1 p)) (λ f h. halts _ _ h c.in_default.is) })
+sub-returns-in_default t c = (passed_on c.query-q.ensures.0 c.in_default.is, record { does = λ a p. next (c.query-q.ensures.1.does a (c.with.ensures.2.packs a 1 p)) (λ f h. halts _ _ h c.in_default.is) })
 
 pub sub-close-requires : goal.sub-close-requires
 sub-close-requires t c = omega (arith, got_in c.query-q.ensures.0 c.in-Got.is, c.requires)
 
 pub sub-returns : goal.sub-returns
 unfolding expr_w
-sub-returns t c = (further c.close.ensures.0 (omega (arith, got_in c.query-q.ensures.0 c.in-Got.is, c.requires)), record { does = λ a p. next (c.query-q.ensures.1.does a (c.asking.ensures.3.packs a 1 p)) (λ f h. goes _ _ h c.in-Got.is (λ rs F. behind _ _ F (c.close.ensures.1 (length rs) F.counted))) })
+sub-returns t c = (further c.close.ensures.0 (omega (arith, got_in c.query-q.ensures.0 c.in-Got.is, c.requires)), record { does = λ a p. next (c.query-q.ensures.1.does a (c.with.ensures.2.packs a 1 p)) (λ f h. goes _ _ h c.in-Got.is (λ rs F. behind _ _ F (c.close.ensures.1 (length rs) F.counted))) })
 
 -- ── tail ──
 pub tail-overflow_add-at : goal.tail-overflow_add-at

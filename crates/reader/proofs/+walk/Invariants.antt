@@ -132,11 +132,11 @@ invariant-cols-loop-d l = ((l.at ≤ tokens l.lists) × (l.from ≤ l.at) × (l.
 abbrev pub decreases-cols-loop-d : goal.decreases-cols-loop-d
 decreases-cols-loop-d l = tokens l.lists - l.at
 
-abbrev pub invariant-joins-loop-kind : goal.invariant-joins-loop-kind
-invariant-joins-loop-kind l = ((l.at ≤ tokens l.lists) × (l.from ≤ l.at) × (l.start ≤ l.made) × (l.made + 8 * l.from ≤ l.start + 8 * l.at) × (l.n + l.from ≤ l.at) × (length l.nodes ≡ length l.initial.nodes)) × ((a : Around) → Packed a 1 l.ask → Onward l.start l.made l.initial.nodes l.nodes (λ f. joins_w (kinds_of l.lists) (texts_of l.lists) f l.from a 0) (λ f. joins_w (kinds_of l.lists) (texts_of l.lists) f l.at a l.n))
+abbrev pub invariant-joins-loop-ask : goal.invariant-joins-loop-ask
+invariant-joins-loop-ask l = ((l.at ≤ tokens l.lists) × (l.from ≤ l.at) × (l.start ≤ l.made) × (l.made + 8 * l.from ≤ l.start + 8 * l.at) × (l.n + l.from ≤ l.at) × (length l.nodes ≡ length l.initial.nodes)) × ((a : Around) → Packed a 1 l.ask → Onward l.start l.made l.initial.nodes l.nodes (λ f. joins_w (kinds_of l.lists) (texts_of l.lists) f l.from a 0) (λ f. joins_w (kinds_of l.lists) (texts_of l.lists) f l.at a l.n))
 
-abbrev pub decreases-joins-loop-kind : goal.decreases-joins-loop-kind
-decreases-joins-loop-kind l = tokens l.lists - l.at
+abbrev pub decreases-joins-loop-ask : goal.decreases-joins-loop-ask
+decreases-joins-loop-ask l = tokens l.lists - l.at
 
 abbrev pub invariant-list-loop-d : goal.invariant-list-loop-d
 invariant-list-loop-d l = ((l.at ≤ tokens l.lists) × (l.from ≤ l.at) × (l.start ≤ l.made) × (l.made + 8 * l.from ≤ l.start + 8 * l.at) × (l.n + l.from ≤ l.at) × (length l.nodes ≡ length l.initial.nodes)) × ((a : Around) → Packed a 1 l.ask → Onward l.start l.made l.initial.nodes l.nodes (λ f. list_w (kinds_of l.lists) (texts_of l.lists) f l.from a 0) (λ f. list_w (kinds_of l.lists) (texts_of l.lists) f l.at a l.n))
@@ -144,11 +144,11 @@ invariant-list-loop-d l = ((l.at ≤ tokens l.lists) × (l.from ≤ l.at) × (l.
 abbrev pub decreases-list-loop-d : goal.decreases-list-loop-d
 decreases-list-loop-d l = tokens l.lists - l.at
 
-abbrev pub invariant-ops-loop-kind : goal.invariant-ops-loop-kind
-invariant-ops-loop-kind l = ((l.at ≤ tokens l.lists) × (l.from ≤ l.at) × (l.start ≤ l.made) × (l.made + 8 * l.from ≤ l.start + 8 * l.at) × (l.left ≤ 127) × (length l.nodes ≡ length l.initial.nodes)) × ((a : Around) (s₁ pre : ℕ) → Packed a s₁ l.ask → l.start ≡ l.base + pre → (r : Step) (N : List ℕ) → Later (λ f. (z : ℕ) → l.made ≡ l.base + z → Laid l.made l.nodes N (ops_w (kinds_of l.lists) (texts_of l.lists) f l.at a s₁ l.left z) r) → Later (λ f. Laid l.start l.initial.nodes N (ops_w (kinds_of l.lists) (texts_of l.lists) f l.from a s₁ l.first pre) r))
+abbrev pub invariant-ops-loop-ask : goal.invariant-ops-loop-ask
+invariant-ops-loop-ask l = ((l.at ≤ tokens l.lists) × (l.from ≤ l.at) × (l.start ≤ l.made) × (l.made + 8 * l.from ≤ l.start + 8 * l.at) × (l.left ≤ 127) × (length l.nodes ≡ length l.initial.nodes)) × ((a : Around) (s₁ pre : ℕ) → Packed a s₁ l.ask → l.start ≡ l.base + pre → (r : Step) (N : List ℕ) → Later (λ f. (z : ℕ) → l.made ≡ l.base + z → Laid l.made l.nodes N (ops_w (kinds_of l.lists) (texts_of l.lists) f l.at a s₁ l.left z) r) → Later (λ f. Laid l.start l.initial.nodes N (ops_w (kinds_of l.lists) (texts_of l.lists) f l.from a s₁ l.first pre) r))
 
-abbrev pub decreases-ops-loop-kind : goal.decreases-ops-loop-kind
-decreases-ops-loop-kind l = tokens l.lists - l.at
+abbrev pub decreases-ops-loop-ask : goal.decreases-ops-loop-ask
+decreases-ops-loop-ask l = tokens l.lists - l.at
 
 abbrev pub invariant-rows-loop-n_d : goal.invariant-rows-loop-n_d
 invariant-rows-loop-n_d l = ((l.at ≤ tokens l.lists) × (l.from ≤ l.at) × (l.base ≤ l.made) × (l.made + 8 * l.from ≤ l.base + 8 * l.at) × (l.rows + l.from ≤ l.at) × (length l.nodes ≡ length l.initial.nodes)) × ((a : Around) → Packed a 1 l.ask → Onward l.base l.made l.initial.nodes l.nodes (λ f. rows_w (kinds_of l.lists) (texts_of l.lists) f l.from a 0 0) (λ f. rows_w (kinds_of l.lists) (texts_of l.lists) f l.at a l.rows l.width))
