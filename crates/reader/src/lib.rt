@@ -28,7 +28,7 @@ use kinds::{
     DISTINCT, DOT, ELSE, END, EXISTS, FIRST, FLOAT, FROM, GROUP, HAVING, ID, IN, INDEXED, INTEGER,
     IS, ISNULL, JOIN, JOIN_KW, KWID, LAST, LIKE_KW, LIMIT, LP, MINUS, NOT, NOTNULL, NULL, NULLS,
     OFFSET, ON, ORDER, PLUS, RP, SELECT, SEMI, STAR, STRING, THEN, USING, VALUES, VARIABLE, WHEN,
-    WHERE,
+    WHERE, node,
 };
 use lists::Lists;
 pub use refusal::{Reason, Refusal};
@@ -59,6 +59,9 @@ pub const WIDTH: usize = 4;
 
 // What a column asks: an expression, or name DOT STAR besides.
 const COLUMN: u32 = 0;
+
+// What an operand leaves that no operator ends: any may go on from it.
+const WHOLE: u8 = 12;
 
 // NOT stands where this strength or a looser one is asked: so right of every binary operator, and not of a sign.
 const NOT_STANDS: u32 = 10;
@@ -150,7 +153,7 @@ fn absent(nodes: &mut [u32], made: u32, n: u32) -> u32
     ensures { (result ≡ made + n) × Filled nodes.old nodes.new made result (absences n) }
 {
     if n == 1 {
-        return emit(nodes, made, 0, 0, 0, 1);
+        return emit(nodes, made, node::ABSENT, 0, 0, 1);
     }
     missing(nodes, made, n)
 }
@@ -205,7 +208,7 @@ fn close(lists: &Lists, nodes: &mut [u32], at: u32, made: u32, base: u32, code: 
         return wrong(kind, at);
     }
     let m = emit(nodes, made, code, 0, n, made - base + 1);
-    got(at + 1, m, 12)
+    got(at + 1, m, WHOLE)
 }
 
 // ---- expressions
@@ -257,7 +260,7 @@ fn leaf(lists: &Lists, nodes: &mut [u32], at: u32, made: u32, kind: u32, ask: As
     let code = kinds::literal_code(kind);
     if code > 0 {
         let m = emit(nodes, made, code, literal_text(lists, at, kind), 0, 1);
-        return got(at + 1, m, 12);
+        return got(at + 1, m, WHOLE);
     }
     let m = named(lists, nodes, at, made, kind);
     let next = peek(lists, at + 1);
@@ -375,7 +378,7 @@ fn op(lists: &Lists, nodes: &mut [u32], at: u32, made: u32, base: u32, kind: u32
             next,
             made,
             base,
-            200 + 100 * not + text(lists, at + not),
+            node::LIKE + node::WORDS * not + text(lists, at + not),
             ask,
         ),
         _ => {
@@ -391,14 +394,14 @@ fn op(lists: &Lists, nodes: &mut [u32], at: u32, made: u32, base: u32, kind: u32
                         next + isnot,
                         made,
                         base,
-                        IS + 100 * isnot,
+                        IS + node::WORDS * isnot,
                         ask,
                     )
                 }
                 COLLATE => collate(lists, nodes, next, made, base),
                 _ => {
-                    let m = emit(nodes, made, 40, kind, 1, made - base + 1);
-                    got(next, m, 12)
+                    let m = emit(nodes, made, node::NULL_TEST, kind, 1, made - base + 1);
+                    got(next, m, WHOLE)
                 }
             }
         }
@@ -412,8 +415,8 @@ fn notnull(nodes: &mut [u32], next: u32, made: u32, base: u32, word: u32) -> Ste
     if word != NULL {
         return wrong(word, next - 1);
     }
-    let m = emit(nodes, made, 40, NOTNULL, 1, made - base + 1);
-    got(next, m, 12)
+    let m = emit(nodes, made, node::NULL_TEST, NOTNULL, 1, made - base + 1);
+    got(next, m, WHOLE)
 }
 
 #[cycle(walk)]
@@ -433,7 +436,7 @@ fn binary(
     let Step::Got(said, _, d) = r else {
         return r;
     };
-    let m = emit(nodes, d.made, 39, detail, 2, d.made - base + 1);
+    let m = emit(nodes, d.made, node::BINARY, detail, 2, d.made - base + 1);
     got(d.at, m, said)
 }
 
@@ -445,8 +448,8 @@ fn collate(lists: &Lists, nodes: &mut [u32], at: u32, made: u32, base: u32) -> S
     let Step::Got(_, _, d) = r else {
         return r;
     };
-    let m = emit(nodes, d.made, 44, 0, 2, d.made - base + 1);
-    got(d.at, m, 12)
+    let m = emit(nodes, d.made, node::COLLATE, 0, 2, d.made - base + 1);
+    got(d.at, m, WHOLE)
 }
 
 #[cycle(walk)]
@@ -470,7 +473,7 @@ fn range(
     let Step::Got(said, _, e) = high else {
         return high;
     };
-    let m = emit(nodes, e.made, 43, not, 3, e.made - base + 1);
+    let m = emit(nodes, e.made, node::BETWEEN, not, 3, e.made - base + 1);
     got(e.at, m, said)
 }
 
@@ -512,19 +515,19 @@ fn among(
             let Step::Got(_, _, d) = q else {
                 return q;
             };
-            ended(lists, nodes, d.at, d.made, base, 42, not)
+            ended(lists, nodes, d.at, d.made, base, node::IN_QUERY, not)
         }
         RP => {
-            let m = emit(nodes, made, 4, 0, 0, 1);
-            ended(lists, nodes, at + 1, m, base, 41, not)
+            let m = emit(nodes, made, node::LIST, 0, 0, 1);
+            ended(lists, nodes, at + 1, m, base, node::IN_LIST, not)
         }
         _ => {
             let l = list(lists, nodes, at + 1, made, ask.with(1));
             let Step::Got(_, n_d, d) = l else {
                 return l;
             };
-            let m = emit(nodes, d.made, 4, 0, n_d as u32, d.made - made + 1);
-            ended(lists, nodes, d.at, m, base, 41, not)
+            let m = emit(nodes, d.made, node::LIST, 0, n_d as u32, d.made - made + 1);
+            ended(lists, nodes, d.at, m, base, node::IN_LIST, not)
         }
     }
 }
@@ -547,7 +550,7 @@ fn ended(
         return wrong(kind, at);
     }
     let m = emit(nodes, made, code, not, 2, made - base + 1);
-    got(at + 1, m, 12)
+    got(at + 1, m, WHOLE)
 }
 
 // { expression , }: says how many.
@@ -591,7 +594,7 @@ fn sign(lists: &Lists, nodes: &mut [u32], at: u32, made: u32, kind: u32, ask: As
     let Step::Got(said, _, d) = r else {
         return r;
     };
-    let m = emit(nodes, d.made, 38, kind, 1, d.made - made + 1);
+    let m = emit(nodes, d.made, node::PREFIX, kind, 1, d.made - made + 1);
     got(d.at, m, least(p, said as u32) as u8)
 }
 
@@ -601,12 +604,12 @@ fn dotted(lists: &Lists, nodes: &mut [u32], at: u32, made: u32, kind: u32, s: u3
     ensures { Within 0 1 lists.now at made result × Lays made nodes.old nodes.new lists.now (λ K T. dotted_w K T at s) result }
 {
     if kind != DOT {
-        let m = emit(nodes, made, 31, 0, 1, 2);
-        return got(at, m, 12);
+        let m = emit(nodes, made, node::NAMES, 0, 1, 2);
+        return got(at, m, WHOLE);
     }
     if s == COLUMN {
         if peek(lists, at + 1) == STAR {
-            let m = emit(nodes, made, 6, 0, 1, 2);
+            let m = emit(nodes, made, node::NAME_STAR, 0, 1, 2);
             return got(at + 2, m, 0);
         }
     }
@@ -624,15 +627,15 @@ fn dots(lists: &Lists, nodes: &mut [u32], at: u32, made: u32) -> Step
     };
     let next = peek(lists, c.at);
     if next != DOT {
-        let m = emit(nodes, c.made, 31, 0, 2, 3);
-        return got(c.at, m, 12);
+        let m = emit(nodes, c.made, node::NAMES, 0, 2, 3);
+        return got(c.at, m, WHOLE);
     }
     let q = name(lists, nodes, c.at + 1, c.made);
     let Step::Got(_, _, d) = q else {
         return q;
     };
-    let m = emit(nodes, d.made, 31, 0, 3, 4);
-    got(d.at, m, 12)
+    let m = emit(nodes, d.made, node::NAMES, 0, 3, 4);
+    got(d.at, m, WHOLE)
 }
 
 // After LP of a call, whose name is the last record.
@@ -657,10 +660,7 @@ fn call(lists: &Lists, nodes: &mut [u32], at: u32, made: u32, ask: Ask) -> Step
 fn is_bare(kind: u32) -> bool
     ensures { result ≡ is_bare kind }
 {
-    match kind {
-        RP | STAR => true,
-        _ => false,
-    }
+    matches!(kind, RP | STAR)
 }
 
 fn bare(lists: &Lists, nodes: &mut [u32], at: u32, made: u32, kind: u32) -> Step
@@ -689,9 +689,9 @@ fn called(
     if kind != RP {
         return wrong(kind, at);
     }
-    let l = emit(nodes, made, 4, 0, n, made - base + 1);
-    let m = emit(nodes, l, 32, detail, 2, l - base + 2);
-    got(at + 1, m, 12)
+    let l = emit(nodes, made, node::LIST, 0, n, made - base + 1);
+    let m = emit(nodes, l, node::CALL, detail, 2, l - base + 2);
+    got(at + 1, m, WHOLE)
 }
 
 // After LP: ( query ) or ( expressions ).
@@ -702,13 +702,13 @@ fn paren(lists: &Lists, nodes: &mut [u32], at: u32, made: u32, ask: Ask) -> Step
 {
     let kind = peek(lists, at);
     match kind {
-        SELECT | VALUES => sub(lists, nodes, at, made, 34, ask),
+        SELECT | VALUES => sub(lists, nodes, at, made, node::SUBQUERY, ask),
         _ => {
             let l = list(lists, nodes, at, made, ask);
             let Step::Got(_, n_d, d) = l else {
                 return l;
             };
-            close(lists, nodes, d.at, d.made, made, 33, n_d as u32)
+            close(lists, nodes, d.at, d.made, made, node::PARENS, n_d as u32)
         }
     }
 }
@@ -734,7 +734,7 @@ fn exists(lists: &Lists, nodes: &mut [u32], at: u32, made: u32, ask: Ask) -> Ste
     if kind != LP {
         return wrong(kind, at);
     }
-    sub(lists, nodes, at + 1, made, 35, ask)
+    sub(lists, nodes, at + 1, made, node::EXISTS, ask)
 }
 
 // After CASE.
@@ -759,8 +759,15 @@ fn case(lists: &Lists, nodes: &mut [u32], at: u32, made: u32, ask: Ask) -> Step
     if end != END {
         return wrong(end, f.at);
     }
-    let m = emit(nodes, f.made, 36, 0, n_d as u32 + 2, f.made - made + 1);
-    got(f.at + 1, m, 12)
+    let m = emit(
+        nodes,
+        f.made,
+        node::CASE,
+        0,
+        n_d as u32 + 2,
+        f.made - made + 1,
+    );
+    got(f.at + 1, m, WHOLE)
 }
 
 #[cycle(walk)]
@@ -823,7 +830,7 @@ fn cast(lists: &Lists, nodes: &mut [u32], at: u32, made: u32, ask: Ask) -> Step
     let Step::Got(_, _, f) = n else {
         return n;
     };
-    close(lists, nodes, f.at, f.made, made, 37, 2)
+    close(lists, nodes, f.at, f.made, made, node::CAST, 2)
 }
 
 // ---- queries
@@ -841,7 +848,7 @@ fn query(lists: &Lists, nodes: &mut [u32], at: u32, made: u32, ask: Ask) -> Step
     let Step::Got(_, _, d) = t else {
         return t;
     };
-    let m = emit(nodes, d.made, 1, 0, 4, d.made - made + 1);
+    let m = emit(nodes, d.made, node::QUERY, 0, 4, d.made - made + 1);
     got(d.at, m, 0)
 }
 
@@ -917,7 +924,7 @@ fn rows(lists: &Lists, nodes: &mut [u32], from: u32, base: u32, ask: Ask) -> Ste
         }
         at += 1;
     }
-    let m = emit(nodes, made, 3, 0, rows, made - base + 1);
+    let m = emit(nodes, made, node::VALUES, 0, rows, made - base + 1);
     got(at, m, 0)
 }
 
@@ -945,7 +952,7 @@ fn row(lists: &Lists, nodes: &mut [u32], at: u32, made: u32, width: u32, ask: As
             return Step::Refused(Reason::RowLength, d.at as u16);
         }
     }
-    let m = emit(nodes, d.made, 4, 0, n, d.made - made + 1);
+    let m = emit(nodes, d.made, node::LIST, 0, n, d.made - made + 1);
     counted(d.at + 1, m, n)
 }
 
@@ -966,12 +973,12 @@ fn select(lists: &Lists, nodes: &mut [u32], at: u32, made: u32, ask: Ask) -> Ste
     let Step::Got(_, n_c, c) = l else {
         return l;
     };
-    let listed = emit(nodes, c.made, 4, 0, n_c as u32, c.made - made + 1);
+    let listed = emit(nodes, c.made, node::LIST, 0, n_c as u32, c.made - made + 1);
     let f = parts(lists, nodes, c.at, listed, ask);
     let Step::Got(_, _, d) = f else {
         return f;
     };
-    let m = emit(nodes, d.made, 2, detail, 5, d.made - made + 1);
+    let m = emit(nodes, d.made, node::SELECT, detail, 5, d.made - made + 1);
     got(d.at, m, 0)
 }
 
@@ -1032,11 +1039,11 @@ fn group(lists: &Lists, nodes: &mut [u32], at: u32, made: u32, ask: Ask) -> Step
             let Step::Got(_, n_d, d) = r else {
                 return r;
             };
-            let m = emit(nodes, d.made, 4, 0, n_d as u32, d.made - made + 1);
+            let m = emit(nodes, d.made, node::LIST, 0, n_d as u32, d.made - made + 1);
             clause(lists, nodes, d.at, m, HAVING, ask)
         }
         HAVING => {
-            let m = emit(nodes, made, 4, 0, 0, 1);
+            let m = emit(nodes, made, node::LIST, 0, 0, 1);
             expr(lists, nodes, at + 1, m, ask)
         }
         _ => {
@@ -1079,7 +1086,7 @@ fn col(lists: &Lists, nodes: &mut [u32], at: u32, made: u32, ask: Ask) -> Step
 {
     let kind = peek(lists, at);
     if kind == STAR {
-        let m = emit(nodes, made, 5, 0, 0, 1);
+        let m = emit(nodes, made, node::STAR, 0, 0, 1);
         return got(at + 1, m, 0);
     }
     let r = expr(lists, nodes, at, made, ask.with(COLUMN));
@@ -1093,7 +1100,14 @@ fn col(lists: &Lists, nodes: &mut [u32], at: u32, made: u32, ask: Ask) -> Step
     let Step::Got(s_e, _, e) = a else {
         return a;
     };
-    let m = emit(nodes, e.made, 7, s_e as u32, 2, e.made - made + 1);
+    let m = emit(
+        nodes,
+        e.made,
+        node::COLUMN,
+        s_e as u32,
+        2,
+        e.made - made + 1,
+    );
     got(e.at, m, 0)
 }
 
@@ -1144,7 +1158,14 @@ fn from(lists: &Lists, nodes: &mut [u32], at: u32, made: u32, kind: u32, ask: As
     let Step::Got(_, n_d, d) = j else {
         return j;
     };
-    let m = emit(nodes, d.made, 8, 0, n_d as u32 + 1, d.made - made + 1);
+    let m = emit(
+        nodes,
+        d.made,
+        node::FROM,
+        0,
+        n_d as u32 + 1,
+        d.made - made + 1,
+    );
     got(d.at, m, 0)
 }
 
@@ -1174,7 +1195,7 @@ fn joins(lists: &Lists, nodes: &mut [u32], from: u32, start: u32, ask: Ask) -> S
         let Step::Got(_, _, e) = o else {
             return o;
         };
-        made = emit(nodes, e.made, 9, s_c as u32, 2, e.made - made + 1);
+        made = emit(nodes, e.made, node::JOIN, s_c as u32, 2, e.made - made + 1);
         at = e.at;
         n += 1;
     }
@@ -1184,10 +1205,7 @@ fn joins(lists: &Lists, nodes: &mut [u32], from: u32, start: u32, ask: Ask) -> S
 fn begins_join(kind: u32) -> bool
     ensures { result ≡ begins_join kind }
 {
-    match kind {
-        COMMA | JOIN | JOIN_KW => true,
-        _ => false,
-    }
+    matches!(kind, COMMA | JOIN | JOIN_KW)
 }
 
 // COMMA, or up to three join words and JOIN: says the join's detail.
@@ -1219,7 +1237,7 @@ fn joined(lists: &Lists, from: u32, first: u32) -> Step
     if !words::legal(flags) {
         return Step::Refused(Reason::JoinFlags, at as u16);
     }
-    got(at + 1, 0, (64 + flags) as u8)
+    got(at + 1, 0, (node::FLAGS + flags) as u8)
 }
 
 // ON or USING, or nothing.
@@ -1235,7 +1253,7 @@ fn on(lists: &Lists, nodes: &mut [u32], at: u32, made: u32, ask: Ask) -> Step
             let Step::Got(_, _, d) = r else {
                 return r;
             };
-            let m = emit(nodes, d.made, 10, 0, 1, d.made - made + 1);
+            let m = emit(nodes, d.made, node::ON, 0, 1, d.made - made + 1);
             got(d.at, m, 0)
         }
         USING => using(lists, nodes, at + 1, made),
@@ -1272,7 +1290,7 @@ fn using(lists: &Lists, nodes: &mut [u32], from: u32, base: u32) -> Step
         }
         at += 1;
     }
-    close(lists, nodes, at, made, base, 11, n)
+    close(lists, nodes, at, made, base, node::USING, n)
 }
 
 // As `expr`.
@@ -1314,7 +1332,14 @@ fn lent(lists: &Lists, nodes: &mut [u32], at: u32, made: u32, base: u32) -> Step
     let Step::Got(s_e, _, e) = a else {
         return a;
     };
-    let m = emit(nodes, e.made, 13, s_e as u32, 2, e.made - base + 1);
+    let m = emit(
+        nodes,
+        e.made,
+        node::QUERY_SOURCE,
+        s_e as u32,
+        2,
+        e.made - base + 1,
+    );
     got(e.at, m, 0)
 }
 
@@ -1337,7 +1362,7 @@ fn table(lists: &Lists, nodes: &mut [u32], at: u32, made: u32) -> Step
     let m = emit(
         nodes,
         e.made,
-        12,
+        node::TABLE,
         s_d as u32 + 4 * s_e as u32,
         4,
         e.made - made + 1,
@@ -1416,7 +1441,7 @@ fn sort(lists: &Lists, nodes: &mut [u32], from: u32, base: u32, ask: Ask) -> Ste
         let Step::Got(s_e, _, e) = w else {
             return w;
         };
-        made = emit(nodes, d.made, 14, s_e as u32, 1, d.made - made + 1);
+        made = emit(nodes, d.made, node::SORT, s_e as u32, 1, d.made - made + 1);
         at = e.at;
         n += 1;
         let kind = peek(lists, at);
@@ -1425,7 +1450,7 @@ fn sort(lists: &Lists, nodes: &mut [u32], from: u32, base: u32, ask: Ask) -> Ste
         }
         at += 1;
     }
-    let m = emit(nodes, made, 4, 0, n, made - base + 1);
+    let m = emit(nodes, made, node::LIST, 0, n, made - base + 1);
     got(at, m, 0)
 }
 
