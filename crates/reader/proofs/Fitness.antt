@@ -2,7 +2,9 @@
 -- fit are fit lists and have fit tokens, and the first place that is unfit is the lowest such token. Assumes nothing.
 use mathlib.Core.Path.{◌≡◌, refl, sym, ap, ◌∙◌}
 use mathlib.Core.Bool.{Bool, true, false, cond, not, ◌&&◌, ◌||◌}
-use mathlib.Core.List.{List, [], ◌∷◌}
+use mathlib.Core.List.{List, [], ◌∷◌, ◌++◌}
+use Rattle.std.proofs.lemmas.List.{length-append}
+use borrow.Author.Count.{below_more}
 use Prim.Native.Nat.{ℕ, zero, suc, ◌<◌}
 use native.Mathlib.Omega.{arith}
 use lib.Bits.{bit_and, bit_or, or_add_and}
@@ -154,3 +156,7 @@ first_unfit (k ∷ K) (t ∷ T) zero e l h u =
 first_unfit (k ∷ K) (t ∷ T) (suc i) e l h u =
     later_unfit (record { kind = k; text = t }) (tokens K T) i (h 0 (omega arith))
     (first_unfit K T i (omega arith) (omega arith) (λ j m. h (suc j) (omega arith)) u)
+
+-- what holds of each index so far holds with one more
+pub more : {A : Type 0} (P : ℕ → Type 0) (xs : List A) (x : A) → ((j : ℕ) → j < length xs → P j) → P (length xs) → (j : ℕ) → j < length (xs ++ (x ∷ [])) → P j
+more P xs x h p j l = let e = length-append xs (x ∷ []) in below_more P (length xs) h p j (omega (arith, e, l))

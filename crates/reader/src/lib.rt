@@ -162,20 +162,17 @@ fn missing(nodes: &mut [u32], made: u32, n: u32) -> u32
     requires { (made < 65536) × (n < 16) }
     ensures { (result ≡ made + n) × Filled nodes.old nodes.new made result (absences n) }
 {
-    let end = made + n;
-    let mut i = made;
-    while i < end {
+    for i in made..made + n {
         let base = i as usize * WIDTH;
         if base + WIDTH > nodes.len() {
             break;
         }
-        nodes[base] = 0;
+        nodes[base] = node::ABSENT;
         nodes[base + 1] = 0;
         nodes[base + 2] = 0;
         nodes[base + 3] = 1;
-        i += 1;
     }
-    end
+    made + n
 }
 
 // A name, of which the kind is known.
@@ -1570,12 +1567,9 @@ fn all_fit(kinds: &[u32], texts: &[u32]) -> bool
     requires { length texts.now ≡ length kinds.now }
     ensures { (result ≡ true → greatest_like kinds.now texts.now ≤ 3) × (result ≡ true → FitLists kinds.now texts.now) × (FitLists kinds.now texts.now → result ≡ true) }
 {
-    let n = kinds.len();
-    let mut bad: u32 = 0;
-    let mut i = 0;
-    while i < n {
-        bad = bad | odd(kinds[i], texts[i]);
-        i += 1;
+    let mut bad = 0;
+    for (kind, text) in kinds.iter().zip(texts) {
+        bad |= odd(*kind, *text);
     }
     bad == 0
 }
@@ -1585,14 +1579,12 @@ fn unfit(kinds: &[u32], texts: &[u32]) -> usize
     requires { length texts.now ≡ length kinds.now }
     ensures { (result ≤ length kinds.now) × ((FitLists kinds.now texts.now → ⊥) → UnfitAt kinds.now texts.now result) }
 {
-    let mut i = 0;
-    while i < kinds.len() {
+    for i in 0..kinds.len() {
         if !kinds::fit(kinds[i], texts[i]) {
             return i;
         }
-        i += 1;
     }
-    i
+    kinds.len()
 }
 
 // A query, then the end of the list or one SEMI and the end.
