@@ -14,7 +14,7 @@ ghost use Rattle.grammar.specs.Reading.{choose};
 ghost use Rattle.descent.proofs.Fill.{Filled};
 ghost use Rattle.descent.proofs.Walk.{done, bind, deeper, name_rec, name_w, close_w, dotted_w, dots_w, called_w, collate_w, alias_w, qualified_w, index_w, table_w, lent_w, nulls_w, way_w, joined_w, using_w, ended_w, expr_w, leaf_w, operand_w, ops_w, op_w, binary_w, range_w, after_w, among_w, list_w, sign_w, call_w, paren_w, sub_w, exists_w, case_w, cased_w, when_w, cast_w, query_w, body_w, tail_w, row_w, select_w, parts_w, clause_w, group_w, cols_w, col_w, from_w, joins_w, on_w, source_w, sort_w, limit_w, command_w};
 ghost use Rattle.reader.specs.Laying.{Laid, Lays, Later, Does, Misfit, TooDeep, one, absences, name_at, literal_text, not_null_w, all_rows_w, is_bare, begins_join, FitLists, UnfitAt};
-ghost use Rattle.reader.specs.Turning.{swapped_at, Turned};
+ghost use Rattle.reader.specs.Turning.{Turned};
 ghost use Rattle.reader.specs.Likes.{greatest_like};
 ghost use Rattle.reader.specs.Bounds.{tokens, kinds_of, texts_of, queries_of, strength_asked, Shallow, Ready, Seen, Within, Refuses, OneOn, Opens, NullBefore, got_of, refusal_of};
 ghost use Rattle.reader.specs.Answers.{number, place, Few, Plain};
@@ -1512,6 +1512,7 @@ fn limit(lists: &Lists, nodes: &mut [u32], at: u32, made: u32, ask: Ask) -> Step
     }
 }
 
+// By three reversals, for the library's `rotate_left` costs a call 992 bytes of stack and a long list a tenth of its instructions.
 // Brings the records from `mid` on before those from `base`, where the table has room for them all.
 fn rotate(nodes: &mut [u32], base: u32, mid: u32, end: u32)
     requires { (base ≤ mid) × (mid ≤ end) × (end < 65536) }
@@ -1533,21 +1534,12 @@ fn reverse(nodes: &mut [u32], from: u32, to: u32)
     let mut b = to as usize * WIDTH;
     while a + WIDTH < b {
         b -= WIDTH;
-        swap(nodes, a, b);
-        swap(nodes, a + 1, b + 1);
-        swap(nodes, a + 2, b + 2);
-        swap(nodes, a + 3, b + 3);
+        nodes.swap(a, b);
+        nodes.swap(a + 1, b + 1);
+        nodes.swap(a + 2, b + 2);
+        nodes.swap(a + 3, b + 3);
         a += WIDTH;
     }
-}
-
-fn swap(nodes: &mut [u32], a: usize, b: usize)
-    requires { (a < length nodes.old) × (b < length nodes.old) }
-    ensures { nodes.new ≡ swapped_at nodes.old a b }
-{
-    let x = nodes[a];
-    nodes[a] = nodes[b];
-    nodes[b] = x;
 }
 
 // ---- the whole

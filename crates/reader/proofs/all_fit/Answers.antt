@@ -20,11 +20,13 @@ loop-kind-preserved c =
       λ z. more (FitAt c.args.kinds.now c.args.texts.now) _ _ (c.loop-kind.invariant.1 (or_none c.loop-kind.bad c.odd-bad.result z).0)
           (sym (ap₂ fits (t.2 0) (t.3 0)) ∙ c.odd-bad.ensures.2 (or_none c.loop-kind.bad c.odd-bad.result z).1),
       λ a. none_or c.loop-kind.bad c.odd-bad.result (c.loop-kind.invariant.2 a)
-          (c.odd-bad.ensures.1 (ap₂ fits (t.2 0) (t.3 0) ∙ fit_at c.args.kinds.now c.args.texts.now (length c.loop-kind.yielded) c.requires a t.0)))
+          (c.odd-bad.ensures.1 (ap₂ fits (t.2 0) (t.3 0) ∙ fit_at c.args.kinds.now c.args.texts.now (length c.loop-kind.yielded) c.requires a t.0)),
+    )
 
 pub returns : goal.returns
 returns c =
     let n = zip_end c.args.kinds.now c.args.texts.now c.loop-kind.yielded _ c.loop-kind.kind-iterator c.next.new.self c.next.result (rw (c.into_iter-kind-iterator.ensures.into_iter_gives, c.zip-kind-items.ensures.first, c.iter.ensures.rest) refl) (rw c.into_iter-kind-iterator.ensures.into_iter_gives c.zip-kind-items.ensures.second.0) c.loop-kind.yielded_by c.in-None.is c.next.ensures.steps in (
       λ e. likes_few c.args.kinds.now c.args.texts.now (λ i l. c.loop-kind.invariant.0 (eqb-true _ _ e) i (omega (arith, n, l))),
       λ e. all_below c.args.kinds.now c.args.texts.now (λ i l. c.loop-kind.invariant.1 (eqb-true _ _ e) i (omega (arith, n, l))),
-      λ a. eq-eqb _ _ (c.loop-kind.invariant.2 a))
+      λ a. eq-eqb _ _ (c.loop-kind.invariant.2 a),
+    )

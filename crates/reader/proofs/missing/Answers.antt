@@ -20,6 +20,6 @@ pub returns : goal.returns
 unfolding absences fill
 returns c =
     elim c.loop-i-test.branch [
-      else-loop-i-test w ↦ (refl, absent_all _ c.loop-i.invariant (omega arith))
+      | else-loop-i-test w ↦ (refl, absent_all _ c.loop-i.invariant (omega arith))
       | then-loop-i-test+then-base-nodes w ↦ (refl, absent_cut _ _ (λ z. omega (arith, z, c.loop-i.auto.nodes, c.loop-i.auto.i, w.if-base-nodes.true, w.loop-i-test)))
     ]

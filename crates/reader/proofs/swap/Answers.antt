@@ -1,7 +1,0 @@
-use borrow.Author.Rules.{rules}
-use Rattle.reader.specs.Turning.{swapped_at}
-use Rattle.reader.proofs.swap.Goals as goal
-
-pub returns : goal.returns
-unfolding swapped_at
-returns c = search rules
