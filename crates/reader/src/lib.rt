@@ -300,16 +300,6 @@ fn too_deep(kind: u32, at: u32, ask: Ask) -> Step
     Step::Refused(Reason::TooDeep, at as u16)
 }
 
-// What is left after an operator: no more than its own strength, nor than its right operand leaves.
-fn least(a: u32, b: u32) -> u32
-    ensures { result ≡ min a b }
-{
-    if b < a {
-        return b;
-    }
-    a
-}
-
 // The operators that go on from an operand that leaves `first`: the tightest of them that may.
 #[cycle(walk)]
 fn ops(
@@ -346,7 +336,8 @@ fn ops(
         };
         at = d.at;
         made = d.made;
-        left = least(k, said as u32);
+        // No more than its own strength, nor than its right operand leaves.
+        left = k.min(said as u32);
     }
     got(at, made, left as u8)
 }
@@ -592,7 +583,7 @@ fn sign(lists: &Lists, nodes: &mut [u32], at: u32, made: u32, kind: u32, ask: As
         return r;
     };
     let m = emit(nodes, d.made, node::PREFIX, kind, 1, d.made - made + 1);
-    got(d.at, m, least(p, said as u32) as u8)
+    got(d.at, m, p.min(said as u32) as u8)
 }
 
 // A call, or up to three names; in a column, name DOT STAR.

@@ -919,7 +919,7 @@ ops-loop-ask-smaller t c = omega (arith, got_in c.op-r.ensures.0 c.in-Got.is, c.
 
 pub ops-loop-ask-preserved : goal.ops-loop-ask-preserved
 unfolding expr_w
-ops-loop-ask-preserved t c = (omega (arith, got_in c.op-r.ensures.0 c.in-Got.is, c.least-left.ensures, c.requires, c.if-left-k.false, c.if-k-s.false, c.if-k-eq0.false, c.peek-kind.ensures, c.loop-ask.invariant.0), λ a s pre p b r N l. c.loop-ask.invariant.1 a s pre p b r N (next (for_any _ _ (λ pre e. (c.op-r.ensures.1 (c.strength-k.result + 1) pre e).does (deeper a) (c.deeper.ensures.packs a s p)) (omega (arith, c.requires, c.loop-ask.invariant.0)) also l) (λ f h z e. ops_goes f a s c.loop-ask.left z c.peek-kind.ensures c.strength-k.ensures c.least-left.ensures (ne_eqb _ _ c.if-k-eq0.false) (le-ltb c.strength-k.result s (omega (arith, (c.strength-s.ensures ∙ strength_of p), c.if-k-s.false))) (le-ltb c.loop-ask.left c.strength-k.result c.if-left-k.false) (h.0 z e) c.in-Got.is (λ rs F. h.1 (z + length rs) (let g = F.counted in omega (arith, e, g))))))
+ops-loop-ask-preserved t c = (omega (arith, got_in c.op-r.ensures.0 c.in-Got.is, c.min-left.ensures, c.requires, c.if-left-k.false, c.if-k-s.false, c.if-k-eq0.false, c.peek-kind.ensures, c.loop-ask.invariant.0), λ a s pre p b r N l. c.loop-ask.invariant.1 a s pre p b r N (next (for_any _ _ (λ pre e. (c.op-r.ensures.1 (c.strength-k.result + 1) pre e).does (deeper a) (c.deeper.ensures.packs a s p)) (omega (arith, c.requires, c.loop-ask.invariant.0)) also l) (λ f h z e. ops_goes f a s c.loop-ask.left z c.peek-kind.ensures c.strength-k.ensures c.min-left.ensures (ne_eqb _ _ c.if-k-eq0.false) (le-ltb c.strength-k.result s (omega (arith, (c.strength-s.ensures ∙ strength_of p), c.if-k-s.false))) (le-ltb c.loop-ask.left c.strength-k.result c.if-left-k.false) (h.0 z e) c.in-Got.is (λ rs F. h.1 (z + length rs) (let g = F.counted in omega (arith, e, g))))))
 
 pub ops-overflow_cast-left : goal.ops-overflow_cast-left
 ops-overflow_cast-left t c = omega arith
@@ -1203,15 +1203,15 @@ sign-overflow_add-d t c = omega (arith, got_in c.expr-r.ensures.0 c.in-Got.is, c
 pub sign-emit-m-requires : goal.sign-emit-m-requires
 sign-emit-m-requires t c = omega (arith, got_in c.expr-r.ensures.0 c.in-Got.is, c.requires)
 
-pub sign-overflow_cast-least : goal.sign-overflow_cast-least
-sign-overflow_cast-least t c = let s : c.prefix-p.result ≤ 11 = rw c.prefix-p.ensures (prefix_small _) in omega (arith, c.least.ensures, got_in c.expr-r.ensures.0 c.in-Got.is)
+pub sign-overflow_cast-min : goal.sign-overflow_cast-min
+sign-overflow_cast-min t c = let s : c.prefix-p.result ≤ 11 = rw c.prefix-p.ensures (prefix_small _) in omega (arith, c.min.ensures, got_in c.expr-r.ensures.0 c.in-Got.is)
 
 pub sign-overflow_cast-said : goal.sign-overflow_cast-said
 sign-overflow_cast-said t c = omega (arith, got_in c.expr-r.ensures.0 c.in-Got.is)
 
 pub sign-returns : goal.sign-returns
 unfolding expr_w
-sign-returns t c = (let s : c.prefix-p.result ≤ 11 = rw c.prefix-p.ensures (prefix_small _) in ended c.got.ensures (omega (arith, c.least.ensures, got_in c.expr-r.ensures.0 c.in-Got.is, c.emit-m.ensures.0, c.requires)), λ s. record { does = λ a p. next ((c.expr-r.ensures.1 c.prefix-p.result).does (deeper a) (c.deeper.ensures.packs a s p)) (λ f h. prefix_walk f a s c.requires.3 c.prefix-p.ensures (left _ _ _ (elim c.if-kind-eq-NOT.branch [ sign-then-kind-eq-NOT+else-strength-gt-NOT_STANDS w ↦ no_right _ _ (le-ltb 10 s (omega (arith, strength_of p, w.strength.ensures, w.if-strength-gt-NOT_STANDS.false))) | sign-else-kind-eq-NOT w ↦ no_left _ _ (ne_eqb _ _ w.if-kind-eq-NOT.false) ]) (goes _ _ h c.in-Got.is (λ rs F. laid_as c.got.ensures c.least.ensures refl (topped F c.emit-m.ensures.1))))) })
+sign-returns t c = (let s : c.prefix-p.result ≤ 11 = rw c.prefix-p.ensures (prefix_small _) in ended c.got.ensures (omega (arith, c.min.ensures, got_in c.expr-r.ensures.0 c.in-Got.is, c.emit-m.ensures.0, c.requires)), λ s. record { does = λ a p. next ((c.expr-r.ensures.1 c.prefix-p.result).does (deeper a) (c.deeper.ensures.packs a s p)) (λ f h. prefix_walk f a s c.requires.3 c.prefix-p.ensures (left _ _ _ (elim c.if-kind-eq-NOT.branch [ sign-then-kind-eq-NOT+else-strength-gt-NOT_STANDS w ↦ no_right _ _ (le-ltb 10 s (omega (arith, strength_of p, w.strength.ensures, w.if-strength-gt-NOT_STANDS.false))) | sign-else-kind-eq-NOT w ↦ no_left _ _ (ne_eqb _ _ w.if-kind-eq-NOT.false) ]) (goes _ _ h c.in-Got.is (λ rs F. laid_as c.got.ensures c.min.ensures refl (topped F c.emit-m.ensures.1))))) })
 
 -- ── sort ──
 pub sort-wrong-requires : goal.sort-wrong-requires
