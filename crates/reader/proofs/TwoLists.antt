@@ -12,7 +12,7 @@ use lib.ListN.{length, get_or}
 use borrow.Author.Tests.{eq-eqb, eqb-true, ltb-false}
 use denote.Ref.{Bor}
 use mir.Val.{bool_byte}
-use Rattle.kinds.proofs.StrengthTable.{past}
+use Rattle.std.proofs.lemmas.List.{get_or_past}
 use Rattle.descent.proofs.Borrowed.{lent_at}
 use Rattle.reader.specs.Bounds.{Lists, kinds_of, texts_of, greatest_like, tokens, texts, likes, Seen}
 
@@ -28,7 +28,7 @@ seen io d at v e p q =
 
 -- .. and past their end
 pub unseen : (io : Lists) (d : Bor (List ℕ)) (at : ℕ) → d.now ≡ [] → length (get_or io 0 d).now ≤ at → Seen io at 0
-unseen io d at e h = seen io d at 0 e (sym (past (get_or io 0 d).now at h)) zero-le
+unseen io d at e h = seen io d at 0 e (sym (get_or_past (get_or io 0 d).now at 0 h)) zero-le
 
 -- a place that has a text
 pub has_text : (io : Lists) (d : Bor (List ℕ)) (at : ℕ) → d.now ≡ [] → at < texts io → at < length (get_or io 1 d).now
