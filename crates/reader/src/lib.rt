@@ -216,7 +216,8 @@ fn named(io: &[&[u32]; 3], nodes: &mut [u32], at: u32, made: u32, kind: u32) -> 
     requires { Ready 0 io.now at made × (at < tokens io.now) }
     ensures { (result ≡ made + 1) × (kind ≡ get_or (kinds_of io.now) at 0 → Filled nodes.old nodes.new made result (name_at io.now at)) }
 {
-    emit(nodes, made, kinds::name_code(kind), text(io, at), 0, 1)
+    let code = kinds::name_code(kind).unwrap_or(kinds::node::ABSENT);
+    emit(nodes, made, code, text(io, at), 0, 1)
 }
 
 fn name(io: &[&[u32]; 3], nodes: &mut [u32], at: u32, made: u32) -> Step
@@ -298,8 +299,7 @@ fn leaf(io: &[&[u32]; 3], nodes: &mut [u32], at: u32, made: u32, kind: u32, ask:
     requires { Ready 0 io.now at made × Asks 65 ask × (at < tokens io.now) × Seen io.now at kind × (0 < kind) × (kind ≤ 11) }
     ensures { Within 1 0 io.now at made result × ((s : ℕ) → Does s ask made nodes.old nodes.new io.now (λ K T f c. leaf_w K T f at c s) result) }
 {
-    let code = kinds::literal_code(kind);
-    if code > 0 {
+    if let Some(code) = kinds::literal_code(kind) {
         let m = emit(nodes, made, code, literal_text(io, at, kind), 0, 1);
         return got(at + 1, m, 12);
     }
