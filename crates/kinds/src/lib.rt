@@ -257,17 +257,17 @@ pub fn strengths() -> [u32; KINDS as usize]
     STRENGTHS
 }
 
-// By that table, how tightly a kind binds that goes on after an operand; 0 for any that doesn't.
+// By that table, how tightly a kind binds that goes on after an operand; 0 for any that doesn't. 0, not an Option: it is the table's entry, and
+// strengths are compared with it as the loosest.
 pub fn strength(table: &[u32], kind: u32) -> u32
     ensures { result ≡ entry_of table.now kind }
 {
-    let Some(i) = kind.checked_sub(ID) else {
-        return 0;
-    };
-    table.get(i as usize).copied().unwrap_or(0)
+    // No kind, 0, wraps to beyond every table.
+    let i = (kind as usize).wrapping_sub(ID as usize);
+    table.get(i).copied().unwrap_or(0)
 }
 
-// How tightly a kind binds before an operand; 0 for any that can't stand there.
+// How tightly a kind binds before an operand; 0 for any that can't stand there, as in the table.
 #[tactic(auto, unfolding(crate::specs::Strength::prefix_of))]
 pub fn prefix(kind: u32) -> u32
     ensures { result ≡ prefix_of kind }

@@ -95,7 +95,12 @@ impl Command {
         let mut nodes = [0; PLACES];
         let got = reading::read_places(&self.kinds, &self.texts, self.count, &mut nodes);
         let r = reading::left(got, &nodes);
-        print!(out; "{name} {} {} {}", r.number, r.place, report::digest(0, &nodes, r.used))?;
+        print!(out;
+            "{name} {} {} {}",
+            r.number,
+            r.place,
+            report::digest(0, &nodes, r.used)
+        )?;
         if !r.kept {
             print!(out; " and the table is changed beyond")?;
         }
@@ -146,38 +151,109 @@ const FIRST: [(&str, &[(u32, u32)]); 11] = [
     ("K2 SEMI", &[(SEMI, NONE)]),
     (
         "K3",
-        &[(SELECT, NONE), (ID, A), (FROM, NONE), (ID, B), (JOIN_KW, words::OUTER), (JOIN, NONE), (ID, C)],
+        &[
+            (SELECT, NONE),
+            (ID, A),
+            (FROM, NONE),
+            (ID, B),
+            (JOIN_KW, words::OUTER),
+            (JOIN, NONE),
+            (ID, C),
+        ],
     ),
     (
         "K4",
-        &[(SELECT, NONE), (ID, A), (FROM, NONE), (ID, B), (JOIN_KW, words::LEFT), (JOIN, NONE), (ID, C)],
+        &[
+            (SELECT, NONE),
+            (ID, A),
+            (FROM, NONE),
+            (ID, B),
+            (JOIN_KW, words::LEFT),
+            (JOIN, NONE),
+            (ID, C),
+        ],
     ),
     (
         "K5",
-        &[(SELECT, NONE), (ID, A), (FROM, NONE), (ID, B), (JOIN_KW, words::LEFT), (JOIN_KW, words::INNER), (JOIN, NONE), (ID, C)],
+        &[
+            (SELECT, NONE),
+            (ID, A),
+            (FROM, NONE),
+            (ID, B),
+            (JOIN_KW, words::LEFT),
+            (JOIN_KW, words::INNER),
+            (JOIN, NONE),
+            (ID, C),
+        ],
     ),
     (
         "K6",
-        &[(SELECT, NONE), (INTEGER, A), (LIMIT, NONE), (INTEGER, B), (COMMA, NONE), (INTEGER, C)],
+        &[
+            (SELECT, NONE),
+            (INTEGER, A),
+            (LIMIT, NONE),
+            (INTEGER, B),
+            (COMMA, NONE),
+            (INTEGER, C),
+        ],
     ),
     (
         "K7",
-        &[(VALUES, NONE), (LP, NONE), (INTEGER, A), (RP, NONE), (COMMA, NONE), (LP, NONE), (INTEGER, B), (COMMA, NONE), (INTEGER, C), (RP, NONE)],
+        &[
+            (VALUES, NONE),
+            (LP, NONE),
+            (INTEGER, A),
+            (RP, NONE),
+            (COMMA, NONE),
+            (LP, NONE),
+            (INTEGER, B),
+            (COMMA, NONE),
+            (INTEGER, C),
+            (RP, NONE),
+        ],
     ),
-    ("K8", &[(SELECT, NONE), (INTEGER, A), (HAVING, NONE), (INTEGER, B)]),
-    ("K9 empty", &[(SELECT, NONE), (ID, A), (IN, NONE), (LP, NONE), (RP, NONE)]),
+    (
+        "K8",
+        &[(SELECT, NONE), (INTEGER, A), (HAVING, NONE), (INTEGER, B)],
+    ),
+    (
+        "K9 empty",
+        &[(SELECT, NONE), (ID, A), (IN, NONE), (LP, NONE), (RP, NONE)],
+    ),
     (
         "K9 comma",
-        &[(SELECT, NONE), (ID, A), (IN, NONE), (LP, NONE), (INTEGER, B), (COMMA, NONE), (RP, NONE)],
+        &[
+            (SELECT, NONE),
+            (ID, A),
+            (IN, NONE),
+            (LP, NONE),
+            (INTEGER, B),
+            (COMMA, NONE),
+            (RP, NONE),
+        ],
     ),
 ];
 
 const LAST: [(&str, &[(u32, u32)]); 2] = [
-    ("K12", &[(SELECT, NONE), (ID, A), (EQ, NONE), (NOT, NONE), (ID, B)]),
+    (
+        "K12",
+        &[(SELECT, NONE), (ID, A), (EQ, NONE), (NOT, NONE), (ID, B)],
+    ),
     (
         "K13",
         &[
-            (SELECT, NONE), (ALL, NONE), (LP, NONE), (ID, A), (RP, NONE), (PLUS, NONE), (LP, NONE), (ID, B), (STAR, NONE), (ID, C), (RP, NONE), (ID, D),
+            (SELECT, NONE),
+            (ALL, NONE),
+            (LP, NONE),
+            (ID, A),
+            (RP, NONE),
+            (PLUS, NONE),
+            (LP, NONE),
+            (ID, B),
+            (STAR, NONE),
+            (ID, C),
+            (RP, NONE),
+            (ID, D),
         ],
     ),
 ];

@@ -7,7 +7,7 @@ ghost use Rattle.words.specs.Words.{upper_of, equal, word_of};
 ghost use Rattle.words.specs.Flags.{flags_of, united, has, legal};
 ghost use Rattle.words.specs.Fewest.{ending_of, fewest_of, word_there, writing_of};
 
-// A word is a number, not an enum: it is a JOIN_KW's text number in the lists that C lends, and `word` answers 0 for none.
+// A word is a number, not an enum: it is a JOIN_KW's text number in the lists that C lends.
 pub const CROSS: u32 = 1;
 
 pub const FULL: u32 = 2;
@@ -64,7 +64,7 @@ fn same(s: &[u8], word: &[u8]) -> bool
             .all(|(b, w)| b.to_ascii_uppercase() == *w)
 }
 
-// The number of the word that the bytes spell, whatever their case.
+// The number of the word that the bytes spell, whatever their case. 0 for none, not an Option: document 01 asks for it.
 // Carried from `join_type_from_bytes` of turso_parser's parser.rs.
 #[tactic(auto, unfolding(crate::specs::Words::word_of, crate::specs::Words::words))]
 pub fn word(s: &[u8]) -> u32
