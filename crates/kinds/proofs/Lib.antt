@@ -1,3 +1,4 @@
+pub mod Codes
 pub mod Lookup
 pub mod StrengthTable
 pub mod Small

@@ -1,7 +1,7 @@
 -- What a way through a `match` knows of a kind decides how the kind is looked up: in a range, or among an arm's kinds, all of
 -- which pass one computed test, it is found; apart from all that a list names, it is not. Assumes nothing.
 use mathlib.Core.Path.{◌≡◌, refl, sym, subst}
-use mathlib.Core.Logic.{◌⊎◌, inl, inr}
+use mathlib.Core.Logic.{inl, inr}
 use mathlib.Core.Bool.{Bool, true, false, ◌&&◌}
 use mathlib.Core.List.{List, [], ◌∷◌, ◌++◌}
 use Prim.Native.Nat.{ℕ, zero, suc, ◌+◌, ◌-◌, ◌≤◌, ◌<◌}
@@ -9,15 +9,8 @@ use native.Mathlib.Omega.{arith}
 use lib.Dec.{T, eqb, eqb→eq}
 use borrow.Author.Tests.{ne_eqb}
 use types.Run.{OneOf}
+use Rattle.kinds.proofs.Small.{left, right}
 use Rattle.kinds.specs.Lists.{Line, ◌for◌, among, number_of}
-
-left : (a b : Bool) → T (a && b) → T a
-left true b t = tt
-left false b t = t
-
-right : (a b : Bool) → T (a && b) → T b
-right true b t = t
-right false b t = absurd t
 
 holds : (b : Bool) → T b → true ≡ b
 holds true t = refl

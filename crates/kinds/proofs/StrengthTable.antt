@@ -2,14 +2,15 @@
 -- other. Assumes nothing.
 use mathlib.Core.Path.{◌≡◌, refl, sym, ap, subst, ◌∙◌}
 use mathlib.Core.Bool.{Bool, true, false}
-use mathlib.Core.List.{List, [], ◌∷◌}
-use Prim.Native.Nat.{ℕ, zero, suc, ◌≤◌, ◌<◌, ◌+◌, ◌-◌}
+use mathlib.Core.List.{List, ◌∷◌}
+use Prim.Native.Nat.{ℕ, ◌≤◌, ◌<◌}
 use lib.Dec.{T, eqb, eqb→eq, leb, leb→le, le→leb}
-use lib.ListN.{get_or, length}
+use lib.ListN.{length}
 use native.Mathlib.Omega.{arith}
-use Rattle.kinds.specs.Kinds.{ID, KINDS}
+use Rattle.std.proofs.lemmas.List.{get_or_past}
+use Rattle.kinds.specs.Kinds.{KINDS}
 use Rattle.kinds.specs.Strength.{strengths, strength_of, strength_table, entry_of}
-use Rattle.kinds.proofs.Lookup.{throughout, passes_at, each, fails, kinds_of, line_by_none}
+use Rattle.kinds.proofs.Lookup.{passes_at, each, fails, kinds_of, line_by_none}
 
 right : ℕ → Bool
 right k = eqb (entry_of strength_table k) (strength_of k)
@@ -18,15 +19,6 @@ right k = eqb (entry_of strength_table k) (strength_of k)
 no_strength : (p : ℕ → Bool) (k : ℕ) → T (passes_at p (kinds_of strengths)) → (T (p k) → ⊥) → 0 ≡ strength_of k
 unfolding strength_of
 no_strength p k t out = line_by_none k strengths (fails p k (kinds_of strengths) t out)
-
-pub past : (t : List ℕ) (k : ℕ) → length t ≤ k → get_or t k 0 ≡ 0
-past [] k h = refl
-past (x ∷ t) zero h = absurd (omega (arith, h))
-past (x ∷ t) (suc k) h = past t k (omega (arith, h))
-
-pub entry_at : (t : List ℕ) (k : ℕ) → (k ≡ 0 → ⊥) → get_or t (k - 1) 0 ≡ entry_of t k
-entry_at t zero h = absurd (h refl)
-entry_at t (suc k) h = ap (λ z. get_or t z 0) (let e : suc k - 1 ≡ k = omega arith in e)
 
 pub length_strengths : length strength_table ≡ 71
 unfolding strength_table strength_of
@@ -37,7 +29,7 @@ unfolding right strength_table strength_of
 inside k h = eqb→eq (entry_of strength_table k) (strength_of k) (each right 0 KINDS tt k (omega arith) h)
 
 outside : (k : ℕ) → KINDS < k → entry_of strength_table k ≡ strength_of k
-outside k h = past (0 ∷ strength_table) k (let l = length_strengths in omega (arith, l, h)) ∙ no_strength (λ a. leb a KINDS) k tt (λ t. let m = leb→le k KINDS t in omega (arith, m, h))
+outside k h = get_or_past (0 ∷ strength_table) k 0 (let l = length_strengths in omega (arith, l, h)) ∙ no_strength (λ a. leb a KINDS) k tt (λ t. let m = leb→le k KINDS t in omega (arith, m, h))
 
 decided : (b : Bool) (k : ℕ) → leb k KINDS ≡ b → entry_of strength_table k ≡ strength_of k
 decided true k e = inside k (leb→le k KINDS (subst T (sym e) tt))

@@ -1,5 +1,5 @@
 -- The classes of kinds that 01's grammar speaks of, each a list of kinds, and the record codes of names and literals.
-use Rattle.std.specs.Prelude.{Bool, List, [], ◌∷◌, ◌++◌, ℕ}
+use Rattle.std.specs.Prelude.{Bool, cond, Option, None, Some, List, [], ◌∷◌, ◌++◌, ℕ, eqb}
 use Rattle.kinds.specs.Kinds.{ID, KWID, STRING, INDEXED, JOIN_KW, INTEGER, FLOAT, BLOB, VARIABLE, CTIME_KW, NULL, LP, STAR, PLUS, MINUS, SLASH, REM, CONCAT, BITAND, BITOR, LSHIFT, RSHIFT, BITNOT, EQ, NE, LT, LE, GT, GE, AND, OR, NOT, LIKE_KW, CASE, CAST, EXISTS}
 use Rattle.kinds.specs.Lists.{Line, ◌for◌, among, number_of}
 
@@ -77,3 +77,7 @@ name_code k = number_of k name_codes
 
 unfoldable pub literal_code : ℕ → ℕ
 literal_code k = number_of k literal_codes
+
+-- a code where there is one: no record of a name or a literal has code 0
+abbrev pub code_there : ℕ → Option ℕ
+code_there n = cond (eqb n 0) None (Some n)

@@ -1,6 +1,6 @@
 -- How a kind is looked up in a list of kinds, and in a table whose lines each give a number to a list of kinds.
 -- The other files of specs/ hold the lists and tables.
-use Rattle.std.specs.Prelude.{Bool, true, false, ◌||◌, cond, List, [], ◌∷◌, ℕ, eqb}
+use Rattle.std.specs.Prelude.{Bool, false, ◌||◌, cond, List, [], ◌∷◌, ℕ, eqb}
 
 infix 40 ◌for◌
 -- whether a kind stands in a list

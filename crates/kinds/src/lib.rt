@@ -5,10 +5,12 @@
 pub mod node;
 
 ghost use Rattle.std.specs.Prelude.{◌≡◌};
-ghost use Rattle.kinds.specs.Classes.{is_name, is_bare_alias, is_literal, heads_call, begins_expr, reads_text, is_binary, name_code, literal_code};
+ghost use Rattle.kinds.specs.Classes.{is_name, is_bare_alias, is_literal, heads_call, begins_expr, reads_text, is_binary, name_code, literal_code, code_there};
 ghost use Rattle.kinds.specs.Fit.{fits};
 ghost use Rattle.kinds.specs.Strength.{strength_table, entry_of, prefix_of};
 
+// Numbers, not an enum: document 01 wants a match over ranges of them and a constant table from each to its strength, and they are the numbers in
+// the lists that C lends.
 pub const ID: u32 = 1;
 
 pub const KWID: u32 = 2;
@@ -160,12 +162,13 @@ const JOIN_WORDS: u32 = 7;
 const LIKE_WORDS: u32 = 3;
 
 // Whether a token may stand in a list at all (else refusal 2): its kind is one of 01's, and so is the text number of JOIN_KW and of LIKE_KW.
+#[tactic(auto, unfolding(crate::specs::Fit::fits, crate::specs::Fit::fit_text))]
 pub fn fit(kind: u32, text: u32) -> bool
     ensures { result ≡ fits kind text }
 {
     match kind {
-        JOIN_KW => 1 <= text && text <= JOIN_WORDS,
-        LIKE_KW => 1 <= text && text <= LIKE_WORDS,
+        JOIN_KW => matches!(text, 1..=JOIN_WORDS),
+        LIKE_KW => matches!(text, 1..=LIKE_WORDS),
         ID..=KINDS => true,
         _ => false,
     }
@@ -247,27 +250,25 @@ const STRENGTHS: [u32; KINDS as usize] = [
 ];
 
 // The table of strengths, for `strength`. A constant array is laid on the stack of whoever reads it, so a reader lays it once and lends it.
+#[tactic(auto, unfolding(crate::specs::Strength::strength_table, crate::specs::Strength::strength_of))]
 pub fn strengths() -> [u32; KINDS as usize]
     ensures { result ≡ strength_table }
 {
     STRENGTHS
 }
 
-// By that table, how tightly a kind binds that goes on after an operand; 0 for any that doesn't.
+// By that table, how tightly a kind binds that goes on after an operand; 0 for any that doesn't. 0, not an Option: it is the table's entry, and
+// strengths are compared with it as the loosest.
 pub fn strength(table: &[u32], kind: u32) -> u32
     ensures { result ≡ entry_of table.now kind }
 {
-    let i = kind as usize;
-    if i == 0 {
-        return 0;
-    }
-    if i > table.len() {
-        return 0;
-    }
-    table[i - 1]
+    // No kind, 0, wraps to beyond every table.
+    let i = (kind as usize).wrapping_sub(ID as usize);
+    table.get(i).copied().unwrap_or(0)
 }
 
-// How tightly a kind binds before an operand; 0 for any that can't stand there.
+// How tightly a kind binds before an operand; 0 for any that can't stand there, as in the table.
+#[tactic(auto, unfolding(crate::specs::Strength::prefix_of))]
 pub fn prefix(kind: u32) -> u32
     ensures { result ≡ prefix_of kind }
 {
@@ -279,100 +280,88 @@ pub fn prefix(kind: u32) -> u32
 }
 
 // Whether a token of the kind is a name.
+#[tactic(auto, unfolding(crate::specs::Classes::is_name))]
 pub fn is_name(kind: u32) -> bool
     ensures { result ≡ is_name kind }
 {
-    match kind {
-        ID..=JOIN_KW => true,
-        _ => false,
-    }
+    matches!(kind, ID..=JOIN_KW)
 }
 
 // Whether it may be an alias with no AS before it.
+#[tactic(auto, unfolding(crate::specs::Classes::is_bare_alias))]
 pub fn is_bare_alias(kind: u32) -> bool
     ensures { result ≡ is_bare_alias kind }
 {
-    match kind {
-        ID..=STRING => true,
-        _ => false,
-    }
+    matches!(kind, ID..=STRING)
 }
 
 // Whether it is a literal, an operand by itself.
+#[tactic(auto, unfolding(crate::specs::Classes::is_literal))]
 pub fn is_literal(kind: u32) -> bool
     ensures { result ≡ is_literal kind }
 {
-    match kind {
-        STRING | INTEGER..=NULL => true,
-        _ => false,
-    }
+    matches!(kind, STRING | INTEGER..=NULL)
 }
 
 // Whether it may be the name of a call.
+#[tactic(auto, unfolding(crate::specs::Classes::heads_call))]
 pub fn heads_call(kind: u32) -> bool
     ensures { result ≡ heads_call kind }
 {
-    match kind {
-        ID | KWID | JOIN_KW => true,
-        _ => false,
-    }
+    matches!(kind, ID | KWID | JOIN_KW)
 }
 
 // Whether an expression can begin with it. From ID to LP stand the names, the literals and LP.
+#[tactic(auto, unfolding(crate::specs::Classes::begins_expr))]
 pub fn begins_expr(kind: u32) -> bool
     ensures { result ≡ begins_expr kind }
 {
-    match kind {
-        ID..=LP | PLUS..=MINUS | BITNOT | NOT | CASE | CAST | EXISTS => true,
-        _ => false,
-    }
+    matches!(kind, ID..=LP | PLUS..=MINUS | BITNOT | NOT | CASE | CAST | EXISTS)
 }
 
 // Whether its text number is read.
+#[tactic(auto, unfolding(crate::specs::Classes::reads_text))]
 pub fn reads_text(kind: u32) -> bool
     ensures { result ≡ reads_text kind }
 {
-    match kind {
-        ID..=CTIME_KW | LIKE_KW => true,
-        _ => false,
-    }
+    matches!(kind, ID..=CTIME_KW | LIKE_KW)
 }
 
 // Whether it is a binary operator by itself: its record has code 39 and the kind as detail. (IS may go on to IS NOT, so it is none.)
+#[tactic(auto, unfolding(crate::specs::Classes::is_binary))]
 pub fn is_binary(kind: u32) -> bool
     ensures { result ≡ is_binary kind }
 {
+    matches!(kind, STAR..=RSHIFT | EQ..=OR)
+}
+
+// The code of a name's record; none where the kind is no name.
+#[tactic(auto, unfolding(crate::specs::Classes::name_code))]
+pub fn name_code(kind: u32) -> Option<u32>
+    ensures { result ≡ code_there (name_code kind) }
+{
     match kind {
-        STAR..=RSHIFT | EQ..=OR => true,
-        _ => false,
+        ID..=KWID => Some(node::ID),
+        STRING => Some(node::STRING_NAME),
+        INDEXED => Some(node::INDEXED_NAME),
+        JOIN_KW => Some(node::JOIN_NAME),
+        _ => None,
     }
 }
 
-// The code of a name's record; 0 where the kind is no name.
-pub fn name_code(kind: u32) -> u32
-    ensures { result ≡ name_code kind }
+// The code of a literal's record; none where the kind is no literal.
+#[tactic(auto, unfolding(crate::specs::Classes::literal_code))]
+pub fn literal_code(kind: u32) -> Option<u32>
+    ensures { result ≡ code_there (literal_code kind) }
 {
     match kind {
-        ID..=KWID => node::ID,
-        STRING => node::STRING_NAME,
-        INDEXED => node::INDEXED_NAME,
-        JOIN_KW => node::JOIN_NAME,
-        _ => 0,
-    }
-}
-
-// The code of a literal's record; 0 where the kind is no literal.
-pub fn literal_code(kind: u32) -> u32
-    ensures { result ≡ literal_code kind }
-{
-    match kind {
-        INTEGER => node::INTEGER,
-        FLOAT => node::FLOAT,
-        STRING => node::STRING,
-        BLOB => node::BLOB,
-        VARIABLE => node::VARIABLE,
-        CTIME_KW => node::CTIME,
-        NULL => node::NULL,
-        _ => 0,
+        INTEGER => Some(node::INTEGER),
+        FLOAT => Some(node::FLOAT),
+        STRING => Some(node::STRING),
+        BLOB => Some(node::BLOB),
+        VARIABLE => Some(node::VARIABLE),
+        CTIME_KW => Some(node::CTIME),
+        NULL => Some(node::NULL),
+        _ => None,
     }
 }

@@ -180,7 +180,8 @@ fn named(lists: &Lists, nodes: &mut [u32], at: u32, made: u32, kind: u32) -> u32
     requires { Ready 0 lists.now at made × (at < tokens lists.now) }
     ensures { (result ≡ made + 1) × (kind ≡ get_or (kinds_of lists.now) at 0 → Filled nodes.old nodes.new made result (name_at lists.now at)) }
 {
-    emit(nodes, made, kinds::name_code(kind), text(lists, at), 0, 1)
+    let code = kinds::name_code(kind).unwrap_or(node::ABSENT);
+    emit(nodes, made, code, text(lists, at), 0, 1)
 }
 
 fn name(lists: &Lists, nodes: &mut [u32], at: u32, made: u32) -> Step
@@ -254,8 +255,7 @@ fn leaf(lists: &Lists, nodes: &mut [u32], at: u32, made: u32, kind: u32, ask: As
     requires { Ready 0 lists.now at made × Shallow ask × (at < tokens lists.now) × Seen lists.now at kind × (0 < kind) × (kind ≤ 11) }
     ensures { Within 1 0 lists.now at made result × ((s : ℕ) → Does s ask made nodes.old nodes.new lists.now (λ K T f c. leaf_w K T f at c s) result) }
 {
-    let code = kinds::literal_code(kind);
-    if code > 0 {
+    if let Some(code) = kinds::literal_code(kind) {
         let m = emit(nodes, made, code, literal_text(lists, at, kind), 0, 1);
         return got(at + 1, m, WHOLE);
     }

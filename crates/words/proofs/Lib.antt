@@ -1,9 +1,5 @@
 pub mod Every
 pub mod Equal
-pub mod Compared
-pub mod LegalCases
-pub mod FewestCases
-pub mod Lookup
 pub mod Spells
 pub mod OrderDoesNotMatter
 pub mod OfAllSequences

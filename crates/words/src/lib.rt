@@ -5,8 +5,9 @@
 ghost use Rattle.std.specs.Prelude.{◌≡◌, map};
 ghost use Rattle.words.specs.Words.{upper_of, equal, word_of};
 ghost use Rattle.words.specs.Flags.{flags_of, united, has, legal};
-ghost use Rattle.words.specs.Fewest.{ending_of, fewest_of};
+ghost use Rattle.words.specs.Fewest.{ending_of, fewest_of, word_there, writing_of};
 
+// A word is a number, not an enum: it is a JOIN_KW's text number in the lists that C lends.
 pub const CROSS: u32 = 1;
 
 pub const FULL: u32 = 2;
@@ -24,6 +25,7 @@ pub const OUTER: u32 = 7;
 // Where a word may stand and none does, and what bytes that are no word give.
 pub const NO_WORD: u32 = 0;
 
+// Flags are a number, not a type of their own: document 01 unites them as bits, and the number stands in a join's record.
 pub const INNER_BIT: u32 = 1;
 
 pub const CROSS_BIT: u32 = 2;
@@ -52,63 +54,36 @@ const RIGHT_FLAGS: u32 = RIGHT_BIT | OUTER_BIT;
 
 const OUTER_FLAGS: u32 = OUTER_BIT;
 
-// The byte, a small ASCII letter as its capital.
-fn upper(b: u8) -> u8
-    ensures { result ≡ upper_of b }
-{
-    match b {
-        b'a'..=b'z' => b - (b'a' - b'A'),
-        _ => b,
-    }
-}
-
 // Whether the upper-cased bytes are the word: the one comparison, for all seven.
 fn same(s: &[u8], word: &[u8]) -> bool
     ensures { result ≡ equal (map upper_of s.now) word.now }
 {
-    if s.len() != word.len() {
-        return false;
-    }
-    let mut i = 0;
-    while i < s.len() {
-        if upper(s[i]) != word[i] {
-            return false;
-        }
-        i += 1;
-    }
-    true
+    s.len() == word.len()
+        && s.iter()
+            .zip(word)
+            .all(|(b, w)| b.to_ascii_uppercase() == *w)
 }
 
-// The number of the word that the bytes spell, whatever their case.
+// The number of the word that the bytes spell, whatever their case. 0 for none, not an Option: document 01 asks for it.
 // Carried from `join_type_from_bytes` of turso_parser's parser.rs.
+#[tactic(auto, unfolding(crate::specs::Words::word_of, crate::specs::Words::words))]
 pub fn word(s: &[u8]) -> u32
     ensures { result ≡ word_of s.now }
 {
-    if same(s, b"CROSS") {
-        return CROSS;
+    match s {
+        _ if same(s, b"CROSS") => CROSS,
+        _ if same(s, b"FULL") => FULL,
+        _ if same(s, b"INNER") => INNER,
+        _ if same(s, b"LEFT") => LEFT,
+        _ if same(s, b"NATURAL") => NATURAL,
+        _ if same(s, b"RIGHT") => RIGHT,
+        _ if same(s, b"OUTER") => OUTER,
+        _ => NO_WORD,
     }
-    if same(s, b"FULL") {
-        return FULL;
-    }
-    if same(s, b"INNER") {
-        return INNER;
-    }
-    if same(s, b"LEFT") {
-        return LEFT;
-    }
-    if same(s, b"NATURAL") {
-        return NATURAL;
-    }
-    if same(s, b"RIGHT") {
-        return RIGHT;
-    }
-    if same(s, b"OUTER") {
-        return OUTER;
-    }
-    NO_WORD
 }
 
 // Carried from `join_type_from_bytes` of turso_parser's parser.rs.
+#[tactic(auto, unfolding(crate::specs::Flags::flags_of, crate::specs::Words::words))]
 pub fn flags(word: u32) -> u32
     ensures { result ≡ flags_of word }
 {
@@ -141,65 +116,47 @@ fn has(flags: u32, bit: u32) -> bool
 pub fn legal(flags: u32) -> bool
     ensures { result ≡ legal flags }
 {
-    if has(flags, OUTER_BIT) {
-        if has(flags, INNER_BIT) {
-            return false;
-        }
-        if has(flags, LEFT_BIT) {
-            return true;
-        }
-        return has(flags, RIGHT_BIT);
-    }
-    true
+    !has(flags, OUTER_BIT)
+        || !has(flags, INNER_BIT) && (has(flags, LEFT_BIT) || has(flags, RIGHT_BIT))
 }
 
-// One or two words, NO_WORD for none.
+// One word or two, or none.
 #[derive(Clone, Copy)]
 pub struct Writing {
-    pub first: u32,
-    pub second: u32,
+    pub first: Option<u32>,
+    pub second: Option<u32>,
 }
 
 // The word that ends a writing and has these flags.
-fn ending(flags: u32) -> u32
-    ensures { result ≡ ending_of flags }
+#[tactic(auto, unfolding(crate::specs::Fewest::ending_of, crate::specs::Fewest::endings, crate::specs::Flags::flags_of, crate::specs::Words::words))]
+fn ending(flags: u32) -> Option<u32>
+    ensures { result ≡ word_there (ending_of flags) }
 {
     match flags {
-        CROSS_FLAGS => CROSS,
-        INNER_FLAGS => INNER,
-        FULL_FLAGS => FULL,
-        LEFT_FLAGS => LEFT,
-        RIGHT_FLAGS => RIGHT,
-        _ => NO_WORD,
+        CROSS_FLAGS => Some(CROSS),
+        INNER_FLAGS => Some(INNER),
+        FULL_FLAGS => Some(FULL),
+        LEFT_FLAGS => Some(LEFT),
+        RIGHT_FLAGS => Some(RIGHT),
+        _ => None,
     }
 }
 
 // The fewest words that have these flags; none for flags that no legal words have.
+#[tactic(auto, unfolding(crate::specs::Fewest::fewest_of, crate::specs::Fewest::ending_of, crate::specs::Fewest::endings, crate::specs::Flags::flags_of, crate::specs::Words::words))]
 pub fn fewest(flags: u32) -> Writing
-    ensures { result ≡ fewest_of flags }
+    ensures { result ≡ writing_of (fewest_of flags) }
 {
-    if has(flags, NATURAL_BIT) {
-        let rest = flags - NATURAL_BIT;
-        if rest == NO_FLAGS {
-            return Writing {
-                first: NATURAL,
-                second: NO_WORD,
-            };
-        }
-        let last = ending(rest);
-        if last == NO_WORD {
-            return Writing {
-                first: NO_WORD,
-                second: NO_WORD,
-            };
-        }
+    if !has(flags, NATURAL_BIT) {
         return Writing {
-            first: NATURAL,
-            second: last,
+            first: ending(flags),
+            second: None,
         };
     }
+    let rest = flags - NATURAL_BIT;
+    let last = ending(rest);
     Writing {
-        first: ending(flags),
-        second: NO_WORD,
+        first: (rest == NO_FLAGS || last.is_some()).then_some(NATURAL),
+        second: last,
     }
 }

@@ -7,7 +7,7 @@ use lib.ListN.{length, get_or, set}
 use native.Mathlib.Omega.{arith}
 use borrow.Author.Tests.{ne_eqb}
 use Rattle.theory.proofs.Cases.{eqb-true}
-use Rattle.kinds.proofs.StrengthTable.{past}
+use Rattle.std.proofs.lemmas.List.{get_or_past}
 use Rattle.grammar.specs.Sizes.{WIDTH}
 use Rattle.grammar.specs.Reading.{choose}
 use Rattle.grammar.specs.Nodes.{count}
@@ -26,7 +26,7 @@ pub field_past : {io : Lists} {i f : ℕ} (t : List ℕ) → t ≡ nodes_of io �
 field_past {io} {i} {f} t e h =
     record {
       some = λ z. absurd (omega (arith, z));
-      is = λ z. sym (ap (λ l. get_or l (WIDTH * (i - 1) + f) 0) (sym e) ∙ past t (WIDTH * (i - 1) + f) (omega (arith, h)));
+      is = λ z. sym (ap (λ l. get_or l (WIDTH * (i - 1) + f) 0) (sym e) ∙ get_or_past t (WIDTH * (i - 1) + f) 0 (omega (arith, h)));
     }
 
 pub field_there : {io : Lists} {i f : ℕ} (t : List ℕ) (at : ℕ) → t ≡ nodes_of io → (i ≡ 0 → ⊥) → at ≡ (i - 1) * 4 + f → Field f io i (get_or t at 0)

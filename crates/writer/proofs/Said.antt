@@ -9,10 +9,11 @@ use native.Mathlib.Omega.{arith}
 use borrow.Author.Tests.{ne_eqb, lt-leb}
 use Rattle.theory.specs.Trees.{Tok}
 use Rattle.theory.specs.Table.{pick, both}
-use Rattle.theory.proofs.Cases.{0≢1, eqb-true, eqb_eq, le-leb}
+use Rattle.theory.proofs.Cases.{by_bool, 0≢1, eqb-true, eqb_eq, le-leb}
 use Rattle.kinds.specs.Kinds.{AS, ID, STRING, INDEXED, JOIN_KW, INTEGER, FLOAT, BLOB, VARIABLE, CTIME_KW, NULL, STAR, DOT, NOT, IS, LIKE_KW, JOIN, NULLS, FIRST, LAST, COLLATE, LP, BY}
 use Rattle.kinds.specs.Strength.{strength_of}
-use Rattle.words.specs.Fewest.{fewest_of, words_of, present}
+use Rattle.std.specs.Prelude.{Option, None, Some, option_to_list}
+use Rattle.words.specs.Fewest.{Fewest, fewest_of, present, word_there, writing_of}
 use Rattle.words.specs.declared.Writing.{Writing}
 use Rattle.grammar.specs.NodeNames.{node_absent, node_star, node_name_star, node_column, node_sort, node_null, node_names, node_parens, node_table, node_join, node_null_test}
 use Rattle.grammar.specs.Reading.{choose}
@@ -207,21 +208,31 @@ unfolding choose
 nulls_none {s} a b = rw (ne_eqb s 1 a, ne_eqb s 2 b) refl
 
 -- ── joins ──
-pub join_none : {w : ℕ} → w ≡ 0 → join_words (present w) ≡ []
-unfolding join_words
-join_none e = rw e refl
-
-pub join_some : {w : ℕ} → (w ≡ 0 → ⊥) → join_words (present w) ≡ toktext JOIN_KW w ∷ []
-unfolding join_words cond
-join_some {w} h = rw (ne_eqb w 0 h) refl
-
 join_words_on : (xs ys : List ℕ) → join_words (xs ++ ys) ≡ join_words xs ++ join_words ys
 unfolding join_words
 join_words_on [] ys = refl
 join_words_on (x ∷ xs) ys = ap (λ z. toktext JOIN_KW x ∷ z) (join_words_on xs ys)
 
-pub join_said : (d : ℕ) → 64 ≤ d → {w : Writing} → w ≡ fewest_of (d - 64) → join_of d ≡ join_words (present w.first) ++ (join_words (present w.second) ++ (tok JOIN ∷ []))
-join_said d h {w} e = join_worded d h ∙ ap (λ z. join_words (words_of z) ++ (tok JOIN ∷ [])) (sym e) ∙ ap (λ z. z ++ (tok JOIN ∷ [])) (join_words_on (present w.first) (present w.second)) ∙ append_assoc (join_words (present w.first)) (join_words (present w.second)) (tok JOIN ∷ [])
+-- the words that a word or none is
+abbrev worded : Option ℕ → List Tok
+worded w = join_words (option_to_list w)
+
+pub join_none : {w : Option ℕ} → w ≡ None → worded w ≡ []
+unfolding join_words
+join_none e = ap worded e
+
+pub join_some : {w : Option ℕ} {n : ℕ} → w ≡ Some n → worded w ≡ toktext JOIN_KW n ∷ []
+unfolding join_words
+join_some e = ap worded e
+
+present_is : (w : ℕ) → present w ≡ option_to_list (word_there w)
+present_is w = by_bool (eqb w 0) (λ e. rw e refl) (λ e. rw e refl)
+
+pub join_said : (d : ℕ) → 64 ≤ d → {w : Writing} → w ≡ writing_of (fewest_of (d - 64)) → join_of d ≡ join_words (option_to_list w.first) ++ (join_words (option_to_list w.second) ++ (tok JOIN ∷ []))
+join_said d h {w} e =
+    let f : Fewest = fewest_of (d - 64) in
+    join_worded d h ∙ ap₂ (λ x y. join_words (x ++ y) ++ (tok JOIN ∷ [])) (present_is f.first ∙ ap (λ (z : Writing). option_to_list z.first) (sym e)) (present_is f.second ∙ ap (λ (z : Writing). option_to_list z.second) (sym e))
+    ∙ ap (λ z. z ++ (tok JOIN ∷ [])) (join_words_on (option_to_list w.first) (option_to_list w.second)) ∙ append_assoc (join_words (option_to_list w.first)) (join_words (option_to_list w.second)) (tok JOIN ∷ [])
 
 no_join : {N : List ℕ} {i : ℕ} (w : Whole a_source N i) → code_at N i ≡ node_join → ⊥
 no_join w e = let c = (known w).code in ⊎_elim (λ q. absurd (omega (arith, q, c, e))) (λ q. absurd (omega (arith, q, c, e))) (source_is w)

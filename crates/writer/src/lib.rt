@@ -5,13 +5,12 @@
 // table of strengths, and a list that is empty where the kinds are written.
 #![tactic(auto)]
 
-ghost use Rattle.std.specs.Prelude.{◌≡◌, [], ◌∷◌, ◌++◌, ◌+◌, ◌-◌, ◌%◌, ◌/◌, ◌<◌, ◌≤◌, length};
+ghost use Rattle.std.specs.Prelude.{◌≡◌, option_to_list, [], ◌∷◌, ◌++◌, ◌+◌, ◌-◌, ◌%◌, ◌/◌, ◌<◌, ◌≤◌, length};
 ghost use Rattle.grammar.specs.Sizes.{WIDTH};
 ghost use Rattle.grammar.specs.NodeNames.{node_query, node_select, node_values, node_table, node_call, node_case, node_cast, node_prefix, node_between};
 ghost use Rattle.grammar.specs.Reading.{choose};
 ghost use Rattle.grammar.specs.Writing.{tok, toktext, node_str, binary_str, binary_toks, not_if, join_of, join_words};
 ghost use Rattle.grammar.specs.Promise.{Writes};
-ghost use Rattle.words.specs.Fewest.{present};
 ghost use Rattle.kinds.specs.Strength.{strength_table};
 ghost use Rattle.shapes.specs.Shape.{a_query, a_body, a_from, a_source, a_constraint, an_expr, a_name, Joining};
 ghost use Rattle.scribe.proofs.Whole.{Whole, before_of};
@@ -780,13 +779,13 @@ fn joint(out: &mut [u32], io: &[&[u32]; 3], to: u32, d: u32) -> u32
     join_word(out, io, two, w.first)
 }
 
-fn join_word(out: &mut [u32], io: &[&[u32]; 3], to: u32, w: u32) -> u32
-    ensures { Wrote io.now out.old out.new result to (join_words (present w)) }
+fn join_word(out: &mut [u32], io: &[&[u32]; 3], to: u32, w: Option<u32>) -> u32
+    ensures { Wrote io.now out.old out.new result to (join_words (option_to_list w)) }
 {
-    if w == words::NO_WORD {
-        return to;
+    match w {
+        Some(word) => put(out, io, to, JOIN_KW, word),
+        None => to,
     }
-    put(out, io, to, JOIN_KW, w)
 }
 
 #[cycle(spelling)]

@@ -24,6 +24,7 @@ use Rattle.reader.proofs.TwoLists.{like_text}
 use Rattle.reader.proofs.Operators.{Way, way_of, op_binary, op_inside, op_between, op_like, op_null, op_is, op_collate, op_postfix}
 use Rattle.kinds.specs.Strength.{prefix_of}
 use Rattle.reader.proofs.Tables.{strength_is}
+use Rattle.kinds.proofs.Codes.{there, not_there}
 use Rattle.kinds.proofs.Small.{strength_small, prefix_small}
 use Rattle.reader.proofs.+walk.Goals as goal
 use Rattle.reader.proofs.+walk.Goals.{call-else-kind-eq-DISTINCT, call-then-kind-eq-DISTINCT, ex-in-1-to-11, ex-in_default, ex-in_default-via-else-kind-lt1+else-kind-lt12, ex-in_default-via-then-kind-lt1, leaf-else-next-eq-LP, leaf-then-next-eq-LP+else-kind-ne-INDEXED, op-else-kind-eq-NOT, op-else-kind-eq-NOT-2, op-else-peek-eq-NOT, op-then-kind-eq-NOT, op-then-kind-eq-NOT-2, op-then-peek-eq-NOT, operand-in-27-1, operand-in_default+else-kind-lt18+then-kind-lt20, ops-else-k-eq0+else-k-s+then-left-k, ops-else-k-eq0+then-k-s, ops-then-k-eq0, row-else-width-gt0, row-then-width-gt0+else-n-width, select-else-detail-gt0, select-in-54, select-in-55, select-in_default, select-then-detail-gt0, sign-else-kind-eq-NOT, sign-then-kind-eq-NOT+else-strength-gt-NOT_STANDS}
@@ -619,9 +620,9 @@ leaf-emit-m-requires t c = omega arith
 pub leaf-overflow_add-at : goal.leaf-overflow_add-at
 leaf-overflow_add-at t c = omega arith
 
-pub leaf-returns-then-code-gt0 : goal.leaf-returns-then-code-gt0
+pub leaf-returns-in-Some : goal.leaf-returns-in-Some
 unfolding expr_w
-leaf-returns-then-code-gt0 t c = (ended c.got.ensures (omega (arith, c.requires, c.emit-m.ensures.0, c.if-code-gt0.true)), λ s. record { does = λ a p. at_once (λ f. took _ _ _ (by_kind (λ k. ltb 0 (literal_code k)) c.requires.3 (lt-ltb 0 (literal_code c.args.kind) (omega (arith, c.literal_code-code.ensures, c.if-code-gt0.true)))) (laid c.got.ensures refl (filled_as (ap₂ (λ y z. one y z 0 1) (c.literal_code-code.ensures ∙ ap literal_code c.requires.3.is) (c.literal_text.ensures ∙ ap (literal_text c.args.lists.now c.args.at) c.requires.3.is)) c.emit-m.ensures.1))) })
+leaf-returns-in-Some t c = (ended c.got.ensures (omega (arith, c.requires, c.emit-m.ensures.0)), λ s. record { does = λ a p. at_once (λ f. took _ _ _ (by_kind (λ k. ltb 0 (literal_code k)) c.requires.3 (lt-ltb 0 (literal_code c.args.kind) (there c.literal_code.ensures c.in-Some.is).1)) (laid c.got.ensures refl (filled_as (ap₂ (λ y z. one y z 0 1) ((there c.literal_code.ensures c.in-Some.is).0 ∙ ap literal_code c.requires.3.is) (c.literal_text.ensures ∙ ap (literal_text c.args.lists.now c.args.at) c.requires.3.is)) c.emit-m.ensures.1))) })
 
 pub leaf-named-m-requires : goal.leaf-named-m-requires
 leaf-named-m-requires t c = omega arith
@@ -630,27 +631,27 @@ pub leaf-overflow_add-at-2 : goal.leaf-overflow_add-at-2
 leaf-overflow_add-at-2 t c = omega arith
 
 pub leaf-overflow_add-at-then-kind-ne-INDEXED : goal.leaf-overflow_add-at-then-kind-ne-INDEXED
-leaf-overflow_add-at-then-kind-ne-INDEXED t c = omega (arith, c.requires, c.if-kind-ne-INDEXED.true, c.if-next-eq-LP.true, c.peek-next.ensures, c.named-m.ensures.0, c.if-code-gt0.false)
+leaf-overflow_add-at-then-kind-ne-INDEXED t c = omega (arith, c.requires, c.if-kind-ne-INDEXED.true, c.if-next-eq-LP.true, c.peek-next.ensures, c.named-m.ensures.0)
 
 pub leaf-deeper-requires : goal.leaf-deeper-requires
-leaf-deeper-requires t c = omega (arith, c.requires, c.if-kind-ne-INDEXED.true, c.if-next-eq-LP.true, c.peek-next.ensures, c.named-m.ensures.0, c.if-code-gt0.false)
+leaf-deeper-requires t c = omega (arith, c.requires, c.if-kind-ne-INDEXED.true, c.if-next-eq-LP.true, c.peek-next.ensures, c.named-m.ensures.0)
 
 pub leaf-call-requires : goal.leaf-call-requires
-leaf-call-requires t c = omega (arith, c.requires, c.if-kind-ne-INDEXED.true, c.if-next-eq-LP.true, c.peek-next.ensures, c.named-m.ensures.0, c.if-code-gt0.false)
+leaf-call-requires t c = omega (arith, c.requires, c.if-kind-ne-INDEXED.true, c.if-next-eq-LP.true, c.peek-next.ensures, c.named-m.ensures.0)
 
 pub leaf-returns-then-kind-ne-INDEXED : goal.leaf-returns-then-kind-ne-INDEXED
 unfolding expr_w
-leaf-returns-then-kind-ne-INDEXED t c = (further c.call.ensures.0 (omega (arith, c.requires, c.if-kind-ne-INDEXED.true, c.if-next-eq-LP.true, c.peek-next.ensures, c.named-m.ensures.0, c.if-code-gt0.false)), λ s. record { does = λ a p. next (c.call.ensures.1.does (deeper a) (c.deeper.ensures.packs a s p)) (λ f h. left _ _ _ (by_kind (λ k. ltb 0 (literal_code k)) c.requires.3 (le-ltb 0 (literal_code c.args.kind) (omega (arith, c.literal_code-code.ensures, c.if-code-gt0.false)))) (took _ _ _ (both_i _ _ (is c.peek-next.ensures c.if-next-eq-LP.true) (by_kind heads_call c.requires.3 (heads_call_lem c.args.kind c.requires.4 c.requires.5 (omega (arith, c.literal_code-code.ensures, c.if-code-gt0.false)) c.if-kind-ne-INDEXED.true))) (behind _ _ (c.named-m.ensures.1 c.requires.3.is) h))) })
+leaf-returns-then-kind-ne-INDEXED t c = (further c.call.ensures.0 (omega (arith, c.requires, c.if-kind-ne-INDEXED.true, c.if-next-eq-LP.true, c.peek-next.ensures, c.named-m.ensures.0)), λ s. record { does = λ a p. next (c.call.ensures.1.does (deeper a) (c.deeper.ensures.packs a s p)) (λ f h. left _ _ _ (by_kind (λ k. ltb 0 (literal_code k)) c.requires.3 (le-ltb 0 (literal_code c.args.kind) (omega (arith, not_there c.literal_code.ensures c.in_default.is)))) (took _ _ _ (both_i _ _ (is c.peek-next.ensures c.if-next-eq-LP.true) (by_kind heads_call c.requires.3 (heads_call_lem c.args.kind c.requires.4 c.requires.5 (omega (arith, not_there c.literal_code.ensures c.in_default.is)) c.if-kind-ne-INDEXED.true))) (behind _ _ (c.named-m.ensures.1 c.requires.3.is) h))) })
 
 pub leaf-overflow_add-at-3 : goal.leaf-overflow_add-at-3
-leaf-overflow_add-at-3 t c = omega (arith, c.requires, c.peek-next.ensures, c.named-m.ensures.0, c.if-code-gt0.false)
+leaf-overflow_add-at-3 t c = omega (arith, c.requires, c.peek-next.ensures, c.named-m.ensures.0)
 
 pub leaf-dotted-requires : goal.leaf-dotted-requires
-leaf-dotted-requires t c = omega (arith, c.requires, c.peek-next.ensures, c.named-m.ensures.0, c.if-code-gt0.false)
+leaf-dotted-requires t c = omega (arith, c.requires, c.peek-next.ensures, c.named-m.ensures.0)
 
 pub leaf-returns : goal.leaf-returns
 unfolding expr_w
-leaf-returns t c = (further c.dotted.ensures.0 (omega (arith, c.requires, c.peek-next.ensures, c.named-m.ensures.0, c.if-code-gt0.false)), λ s. record { does = λ a p. at_once (λ f. left _ _ _ (by_kind (λ k. ltb 0 (literal_code k)) c.requires.3 (le-ltb 0 (literal_code c.args.kind) (omega (arith, c.literal_code-code.ensures, c.if-code-gt0.false)))) (left _ _ _ (elim c.if-next-eq-LP.branch [ leaf-then-next-eq-LP+else-kind-ne-INDEXED w ↦ no_right _ _ (by_kind heads_call c.requires.3 (indexed_heads_none _ w.if-kind-ne-INDEXED.false)) | leaf-else-next-eq-LP w ↦ no_left _ _ (isn't c.peek-next.ensures w.if-next-eq-LP.false) ]) (behind _ _ (c.named-m.ensures.1 c.requires.3.is) (by_walk (ap (λ z. dotted_w (kinds_of c.args.lists.now) (texts_of c.args.lists.now) (c.args.at + 1) z) (sym (c.strength.ensures ∙ strength_of p))) c.dotted.ensures.1)))) })
+leaf-returns t c = (further c.dotted.ensures.0 (omega (arith, c.requires, c.peek-next.ensures, c.named-m.ensures.0)), λ s. record { does = λ a p. at_once (λ f. left _ _ _ (by_kind (λ k. ltb 0 (literal_code k)) c.requires.3 (le-ltb 0 (literal_code c.args.kind) (omega (arith, not_there c.literal_code.ensures c.in_default.is)))) (left _ _ _ (elim c.if-next-eq-LP.branch [ leaf-then-next-eq-LP+else-kind-ne-INDEXED w ↦ no_right _ _ (by_kind heads_call c.requires.3 (indexed_heads_none _ w.if-kind-ne-INDEXED.false)) | leaf-else-next-eq-LP w ↦ no_left _ _ (isn't c.peek-next.ensures w.if-next-eq-LP.false) ]) (behind _ _ (c.named-m.ensures.1 c.requires.3.is) (by_walk (ap (λ z. dotted_w (kinds_of c.args.lists.now) (texts_of c.args.lists.now) (c.args.at + 1) z) (sym (c.strength.ensures ∙ strength_of p))) c.dotted.ensures.1)))) })
 
 -- ── limit ──
 pub limit-absent-m-requires : goal.limit-absent-m-requires

@@ -1,38 +1,20 @@
-use mathlib.Core.Path.{sym, ◌∙◌}
-use native.Mathlib.Omega.{arith}
-use Rattle.words.proofs.Compared.{at_first, at_last, goes_on, stops, of_other_length}
+-- `words::same` meets its contract: it passes exactly where the library's capitals are the word. Assumes nothing.
+use Rattle.std.proofs.Common.{map, rules, arith}
+use Rattle.std.proofs.lemmas.List.{length-map}
+use Rattle.std.proofs.lemmas.Iterator.{YieldsList-from_slice, YieldsList-from_zip, same_from_all}
+use Rattle.std.specs.Char.{to_ascii_uppercase}
+use mathlib.Core.Path.{◌≡◌, refl, sym, ◌∙◌}
+use Rattle.words.specs.Words.{upper_of}
+use Rattle.words.proofs.Equal.{tested, upper_is, capitals}
+use borrow.Author.Tests.{tests}
 use Rattle.words.proofs.same.Goals as goal
 
 pub returns-then-s-word : goal.returns-then-s-word
-returns-then-s-word c = sym (of_other_length c.args.s.now c.args.word.now (λ e. omega arith))
+returns-then-s-word c =
+    let d = same_from_all c.all.new.self _ _ (map upper_of c.args.s.now) c.args.word.now c.all.ensures.ran
+    (YieldsList-from_zip (capitals (YieldsList-from_slice c.args.s.now cc)) (YieldsList-from_slice c.args.word.now cc))
+    (grind (arith, length-map)) (λ x q k. (refl, let e : to_ascii_uppercase x.0.now ≡ x.1.now = search (rules, tests) in sym (upper_is x.0.now) ∙ e)) (λ x q k. let e : to_ascii_uppercase x.0.now ≡ x.1.now → ⊥ = search (rules, tests) in λ h. e (upper_is x.0.now ∙ h)) in
+    tested _ (map upper_of c.args.s.now) c.args.word.now d.0 d.1
 
-pub loop-i-init : goal.loop-i-init
-loop-i-init c = (omega arith, omega arith, at_first _ _)
-
-pub bounds-s-i : goal.bounds-s-i
-bounds-s-i c = omega arith
-
-pub upper-requires : goal.upper-requires
-upper-requires c = tt
-
-pub bounds-word-i : goal.bounds-word-i
-bounds-word-i c = omega arith
-
-pub returns-then-upper-word : goal.returns-then-upper-word
-returns-then-upper-word c = sym (c.loop-i.invariant.2 ∙ stops _ _ _ (omega arith) (omega arith) (λ e. c.if-upper-word.true (c.upper.ensures ∙ e)))
-
-pub overflow_add-i : goal.overflow_add-i
-overflow_add-i c = omega arith
-
-pub loop-i-smaller : goal.loop-i-smaller
-loop-i-smaller c = omega arith
-
-pub loop-i-preserved : goal.loop-i-preserved
-loop-i-preserved c = (
-  omega arith,
-  omega arith,
-  c.loop-i.invariant.2 ∙ goes_on _ _ _ (omega arith) (omega arith) (sym c.upper.ensures ∙ c.if-upper-word.false),
-)
-
-pub returns : goal.returns
-returns c = sym (c.loop-i.invariant.2 ∙ at_last _ _ _ (omega arith) (omega arith))
+pub returns-else-s-word : goal.returns-else-s-word
+returns-else-s-word c = tested _ (map upper_of c.args.s.now) c.args.word.now (grind (arith, length-map)) (grind (arith, length-map))
