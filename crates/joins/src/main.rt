@@ -44,6 +44,7 @@ struct Tally {
 }
 
 impl Tally {
+    // In arrays of 4,096 places, as document 01 has them.
     fn read(&mut self, sequence: &[u32]) {
         let mut kinds = [0; PLACES];
         let mut texts = [0; PLACES];

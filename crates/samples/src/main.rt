@@ -9,24 +9,18 @@ use kinds::{
 use reader::Answer;
 use reading::PLACES;
 use std::io::Result;
+use words::{INNER, LEFT, OUTER};
 
-// Text numbers: of the names and the numbers of a command, in the order in which they come; and of a token that has none.
-const A: u32 = 8;
+// The text number of a command's first name or number; the next ones have the next.
+const FIRST_TEXT: u32 = 8;
 
-const B: u32 = 9;
-
-const C: u32 = 10;
-
-const D: u32 = 11;
-
-const NONE: u32 = 0;
-
-// A command in tables of 4,096 places, which are clear beyond its tokens.
+// A command in arrays of 4,096 places, as document 01 has them, which are clear beyond its tokens.
 #[derive(Drop)]
 struct Command {
     kinds: [u32; PLACES],
     texts: [u32; PLACES],
     count: usize,
+    next_text: u32,
 }
 
 impl Command {
@@ -35,11 +29,38 @@ impl Command {
             kinds: [0; PLACES],
             texts: [0; PLACES],
             count: 0,
+            next_text: FIRST_TEXT,
+        }
+    }
+
+    // Of these kinds; the words are those of its JOIN_KWs.
+    fn of(kinds: &[u32], words: &[u32]) -> Command {
+        let mut command = Command::new();
+        let mut words = words.iter();
+        for kind in kinds {
+            if *kind != JOIN_KW {
+                command.push(*kind);
+            } else if let Some(word) = words.next() {
+                command.put(JOIN_KW, *word);
+            }
+        }
+        command
+    }
+
+    // One more token, with its text number.
+    fn push(&mut self, kind: u32) {
+        match kind {
+            ID | INTEGER => {
+                let text = self.next_text;
+                self.next_text = text.wrapping_add(1);
+                self.put(kind, text);
+            }
+            _ => self.put(kind, 0),
         }
     }
 
     // One more token, where there is place for it.
-    fn push(&mut self, kind: u32, text: u32) {
+    fn put(&mut self, kind: u32, text: u32) {
         let at = self.count;
         if at < PLACES {
             self.kinds[at] = kind;
@@ -48,23 +69,16 @@ impl Command {
         }
     }
 
-    fn of(tokens: &[(u32, u32)]) -> Command {
-        let mut command = Command::new();
-        for (kind, text) in tokens {
-            command.push(*kind, *text);
-        }
-        command
-    }
-
     // SELECT, then 1 in so many pairs of parentheses.
     fn in_parentheses(pairs: usize) -> Command {
-        let mut command = Command::of(&[(SELECT, NONE)]);
+        let mut command = Command::new();
+        command.push(SELECT);
         for _ in 0..pairs {
-            command.push(LP, NONE);
+            command.push(LP);
         }
-        command.push(INTEGER, A);
+        command.push(INTEGER);
         for _ in 0..pairs {
-            command.push(RP, NONE);
+            command.push(RP);
         }
         command
     }
@@ -73,13 +87,13 @@ impl Command {
     fn in_columns(outer: usize) -> Command {
         let mut command = Command::new();
         for _ in 0..outer {
-            command.push(SELECT, NONE);
-            command.push(LP, NONE);
+            command.push(SELECT);
+            command.push(LP);
         }
-        command.push(SELECT, NONE);
-        command.push(INTEGER, A);
+        command.push(SELECT);
+        command.push(INTEGER);
         for _ in 0..outer {
-            command.push(RP, NONE);
+            command.push(RP);
         }
         command
     }
@@ -136,7 +150,7 @@ impl Command {
     fn show_tokens(&self, out: &impl Print) -> Result<()> {
         for (kind, text) in self.kinds.iter().zip(&self.texts).take(self.count) {
             print!(out; " {kind}")?;
-            if *text != NONE {
+            if *text > 0 {
                 print!(out; ".{text}")?;
             }
         }
@@ -144,129 +158,56 @@ impl Command {
     }
 }
 
-// The samples before those that are made of a number, and after them.
-const FIRST: [(&str, &[(u32, u32)]); 11] = [
-    ("K1", &[(SELECT, NONE), (STAR, NONE)]),
-    ("K2 nothing", &[]),
-    ("K2 SEMI", &[(SEMI, NONE)]),
-    (
-        "K3",
-        &[
-            (SELECT, NONE),
-            (ID, A),
-            (FROM, NONE),
-            (ID, B),
-            (JOIN_KW, words::OUTER),
-            (JOIN, NONE),
-            (ID, C),
-        ],
-    ),
-    (
-        "K4",
-        &[
-            (SELECT, NONE),
-            (ID, A),
-            (FROM, NONE),
-            (ID, B),
-            (JOIN_KW, words::LEFT),
-            (JOIN, NONE),
-            (ID, C),
-        ],
-    ),
+// Its name, its kinds, and the words of its JOIN_KWs.
+type Sample = (&'static str, &'static [u32], &'static [u32]);
+
+// Those before the ones that are made of a number, and those after them.
+const FIRST: [Sample; 11] = [
+    ("K1", &[SELECT, STAR], &[]),
+    ("K2 nothing", &[], &[]),
+    ("K2 SEMI", &[SEMI], &[]),
+    ("K3", &[SELECT, ID, FROM, ID, JOIN_KW, JOIN, ID], &[OUTER]),
+    ("K4", &[SELECT, ID, FROM, ID, JOIN_KW, JOIN, ID], &[LEFT]),
     (
         "K5",
-        &[
-            (SELECT, NONE),
-            (ID, A),
-            (FROM, NONE),
-            (ID, B),
-            (JOIN_KW, words::LEFT),
-            (JOIN_KW, words::INNER),
-            (JOIN, NONE),
-            (ID, C),
-        ],
+        &[SELECT, ID, FROM, ID, JOIN_KW, JOIN_KW, JOIN, ID],
+        &[LEFT, INNER],
     ),
     (
         "K6",
-        &[
-            (SELECT, NONE),
-            (INTEGER, A),
-            (LIMIT, NONE),
-            (INTEGER, B),
-            (COMMA, NONE),
-            (INTEGER, C),
-        ],
+        &[SELECT, INTEGER, LIMIT, INTEGER, COMMA, INTEGER],
+        &[],
     ),
     (
         "K7",
         &[
-            (VALUES, NONE),
-            (LP, NONE),
-            (INTEGER, A),
-            (RP, NONE),
-            (COMMA, NONE),
-            (LP, NONE),
-            (INTEGER, B),
-            (COMMA, NONE),
-            (INTEGER, C),
-            (RP, NONE),
+            VALUES, LP, INTEGER, RP, COMMA, LP, INTEGER, COMMA, INTEGER, RP,
         ],
+        &[],
     ),
-    (
-        "K8",
-        &[(SELECT, NONE), (INTEGER, A), (HAVING, NONE), (INTEGER, B)],
-    ),
-    (
-        "K9 empty",
-        &[(SELECT, NONE), (ID, A), (IN, NONE), (LP, NONE), (RP, NONE)],
-    ),
-    (
-        "K9 comma",
-        &[
-            (SELECT, NONE),
-            (ID, A),
-            (IN, NONE),
-            (LP, NONE),
-            (INTEGER, B),
-            (COMMA, NONE),
-            (RP, NONE),
-        ],
-    ),
+    ("K8", &[SELECT, INTEGER, HAVING, INTEGER], &[]),
+    ("K9 empty", &[SELECT, ID, IN, LP, RP], &[]),
+    ("K9 comma", &[SELECT, ID, IN, LP, INTEGER, COMMA, RP], &[]),
 ];
 
-const LAST: [(&str, &[(u32, u32)]); 2] = [
-    (
-        "K12",
-        &[(SELECT, NONE), (ID, A), (EQ, NONE), (NOT, NONE), (ID, B)],
-    ),
+const LAST: [Sample; 2] = [
+    ("K12", &[SELECT, ID, EQ, NOT, ID], &[]),
     (
         "K13",
-        &[
-            (SELECT, NONE),
-            (ALL, NONE),
-            (LP, NONE),
-            (ID, A),
-            (RP, NONE),
-            (PLUS, NONE),
-            (LP, NONE),
-            (ID, B),
-            (STAR, NONE),
-            (ID, C),
-            (RP, NONE),
-            (ID, D),
-        ],
+        &[SELECT, ALL, LP, ID, RP, PLUS, LP, ID, STAR, ID, RP, ID],
+        &[],
     ),
 ];
 
 fn main(rt: HostRuntime) -> Result<()> {
-    for (name, tokens) in FIRST {
-        Command::of(tokens).show(&rt, name)?;
+    for (name, kinds, words) in FIRST {
+        Command::of(kinds, words).show(&rt, name)?;
     }
     Command::in_parentheses(63).show(&rt, "K10 63")?;
     Command::in_parentheses(64).show(&rt, "K10 64")?;
     Command::in_columns(16).show(&rt, "K11")?;
-    for (name, tokens) in LAST {
-        Command::of(tokens).show(&rt, name)?;
+    for (name, kinds, words) in LAST {
+        Command::of(kinds, words).show(&rt, name)?;
     }
     Ok(())
 }
