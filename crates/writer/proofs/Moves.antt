@@ -23,7 +23,8 @@ use Rattle.scribe.proofs.Lists.{case_toks, case_kids, case_spelt, case_ended}
 use Rattle.scribe.proofs.Clauses.{code_at, children_at, order_none, order_some, group_none, group_some, constraint_here, constraint_gone}
 use Rattle.scribe.proofs.Leading.{binary_led, between_led, in_list_led, in_query_led}
 use Rattle.scribe.proofs.Parts.{Coded, Term, is_term, Operand, Leaf, Row, Terms, Inside, a_query_lem, members, Perhaps, not_any, some_terms, Part, coded_toks, term_toks, operand_toks, may_toks, bare_toks, terms_toks, inner_toks, inside_toks, perhaps_toks, whens_toks, call_toks, args_toks, part_toks, constraint_toks, join_toks, source_of, using_toks, Spells, Tailed}
-use Rattle.writer.specs.Pages.{Lists, nodes_of, lane_in, Field, Trails, Bounds}
+use Rattle.writer.specs.declared.lent.Pages.{Pages}
+use Rattle.writer.specs.Pages.{nodes_of, lane_in, Field, Trails, Bounds}
 use Rattle.writer.proofs.Leaves.{code_at_lem, code_of, detail_of, children_at_lem}
 use Rattle.writer.proofs.Said.{spell_at, expr_term, leads_within, by_term}
 
@@ -36,7 +37,7 @@ pub code_is : {C : Class} {N : List ℕ} {i k : ℕ} (w : Whole C N i) → code_
 code_is w e = sym (known w).code ∙ e
 
 -- the strength of a term
-pub strength_at : {io : Lists} {i c d k : ℕ} → k ≡ node_str c d → Field 0 io i c → Field 1 io i d → (t : Term (nodes_of io) i) → k ≡ node_str t.whole.code t.whole.detail
+pub strength_at : {pages : Pages} {i c d k : ℕ} → k ≡ node_str c d → Field 0 pages i c → Field 1 pages i d → (t : Term (nodes_of pages) i) → k ≡ node_str t.whole.code t.whole.detail
 strength_at e F G t = e ∙ ap₂ node_str (code_of t.whole F) (detail_of t.whole G)
 
 -- ── rows ──
@@ -128,22 +129,22 @@ module _ {N : List ℕ} {i : ℕ} where
   perhaps_there (not_any h e) = h
   perhaps_there (some_terms t h) = t.row.there
 
-  pub perhaps_terms : {io : Lists} {r : ℕ} → nodes_of io ≡ N → Field 2 io i r → Perhaps N i → (r ≡ 0 → ⊥) → Terms N i
+  pub perhaps_terms : {pages : Pages} {r : ℕ} → nodes_of pages ≡ N → Field 2 pages i r → Perhaps N i → (r ≡ 0 → ⊥) → Terms N i
   perhaps_terms e F (not_any h q) g = absurd (g (children_at_lem F h ∙ ap (λ z. children_at z i) e ∙ q))
   perhaps_terms e F (some_terms t h) g = t
 
-module _ {io : Lists} {A A' : List ℕ} {r to i n : ℕ} (k : ℕ) (F : Field 2 io i n) where
-  pub perhaps_none : n ≡ 0 → Puts (lane_in io) A A' r to [] → Spells (perhaps_toks k) (nodes_of io) (lane_in io) A A' r to i
+module _ {pages : Pages} {A A' : List ℕ} {r to i n : ℕ} (k : ℕ) (F : Field 2 pages i n) where
+  pub perhaps_none : n ≡ 0 → Puts (lane_in pages) A A' r to [] → Spells (perhaps_toks k) (nodes_of pages) (lane_in pages) A A' r to i
   perhaps_none e p = record { told = λ b. go b }
     where
-      go : (b : Perhaps (nodes_of io) i) → Puts (lane_in io) A A' r to (perhaps_toks k (nodes_of io) i b)
+      go : (b : Perhaps (nodes_of pages) i) → Puts (lane_in pages) A A' r to (perhaps_toks k (nodes_of pages) i b)
       go (not_any h q) = p
       go (some_terms t h) = absurd (h (sym (children_at_lem F t.row.there) ∙ e))
 
-  pub perhaps_some : (n ≡ 0 → ⊥) → ((t : Terms (nodes_of io) i) → Puts (lane_in io) A A' r to (tok k ∷ tok BY ∷ terms_toks (nodes_of io) i t)) → Spells (perhaps_toks k) (nodes_of io) (lane_in io) A A' r to i
+  pub perhaps_some : (n ≡ 0 → ⊥) → ((t : Terms (nodes_of pages) i) → Puts (lane_in pages) A A' r to (tok k ∷ tok BY ∷ terms_toks (nodes_of pages) i t)) → Spells (perhaps_toks k) (nodes_of pages) (lane_in pages) A A' r to i
   perhaps_some g f = record { told = λ b. go b }
     where
-      go : (b : Perhaps (nodes_of io) i) → Puts (lane_in io) A A' r to (perhaps_toks k (nodes_of io) i b)
+      go : (b : Perhaps (nodes_of pages) i) → Puts (lane_in pages) A A' r to (perhaps_toks k (nodes_of pages) i b)
       go (not_any h q) = absurd (g (children_at_lem F h ∙ q))
       go (some_terms t h) = f t
 
@@ -152,8 +153,8 @@ module _ {io : Lists} {A A' : List ℕ} {r to i n : ℕ} (k : ℕ) (F : Field 2 
 in_said : (d : ℕ) (us : List Tok) → not_if d ++ (tok IN ∷ us) ≡ (not_if d ++ (tok IN ∷ [])) ++ us
 in_said d us = sym (append_assoc (not_if d) (tok IN ∷ []) us)
 
-module _ {io : Lists} {A A' : List ℕ} {r to i k : ℕ} where
-  pub trails_binary : {c d m j : ℕ} {A₁ : List ℕ} → Field 0 io i c → c ≡ node_binary → Field 1 io i d → Puts (lane_in io) A₁ A' r m (binary_toks d) → j ≡ i - 1 → Spells (term_toks (k + 1)) (nodes_of io) (lane_in io) A A₁ m to j → Trails k io A A' r to i
+module _ {pages : Pages} {A A' : List ℕ} {r to i k : ℕ} where
+  pub trails_binary : {c d m j : ℕ} {A₁ : List ℕ} → Field 0 pages i c → c ≡ node_binary → Field 1 pages i d → Puts (lane_in pages) A₁ A' r m (binary_toks d) → j ≡ i - 1 → Spells (term_toks (k + 1)) (nodes_of pages) (lane_in pages) A A₁ m to j → Trails k pages A A' r to i
   trails_binary {d = d} F e G p h s =
       record {
         told = λ t l q.
@@ -168,42 +169,42 @@ module _ {io : Lists} {A A' : List ℕ} {r to i k : ℕ} where
             };
       }
 
-  pub trails_between : {c : ℕ} → Field 0 io i c → c ≡ node_between → Bounds io A A' r to i → Trails k io A A' r to i
+  pub trails_between : {c : ℕ} → Field 0 pages i c → c ≡ node_between → Bounds pages A A' r to i → Trails k pages A A' r to i
   trails_between F e s = record { told = λ t l q. s.told (coded t.whole (sym (code_of t.whole F) ∙ e)) }
 
-  pub trails_in : {c d m j : ℕ} {A₁ : List ℕ} → Field 0 io i c → node_in_list ≤ c → c < node_between → Field 1 io i d → Puts (lane_in io) A₁ A' r m (not_if d ++ (tok IN ∷ [])) → j ≡ i - 1 → Spells inside_toks (nodes_of io) (lane_in io) A A₁ m to j → Trails k io A A' r to i
+  pub trails_in : {c d m j : ℕ} {A₁ : List ℕ} → Field 0 pages i c → node_in_list ≤ c → c < node_between → Field 1 pages i d → Puts (lane_in pages) A₁ A' r m (not_if d ++ (tok IN ∷ [])) → j ≡ i - 1 → Spells inside_toks (nodes_of pages) (lane_in pages) A A₁ m to j → Trails k pages A A' r to i
   trails_in {c} {d = d} F lo hi G p h s = record { told = λ t l q. by_bool (eqb c node_in_list) (λ e. listed t (sym (code_of t.whole F) ∙ eqb_eq c node_in_list e)) (λ e. asked t (sym (code_of t.whole F) ∙ other e)) }
     where
       other : eqb c node_in_list ≡ false → c ≡ node_in_query
       other e = let n : c ≡ node_in_list → ⊥ = λ q. absurd (0≢1 (sym e ∙ eqb-true c node_in_list q)) in omega (arith, lo, hi, n)
 
-      listed : (t : Term (nodes_of io) i) → t.whole.code ≡ node_in_list → Tailed t.whole (lane_in io) A A' r to
+      listed : (t : Term (nodes_of pages) i) → t.whole.code ≡ node_in_list → Tailed t.whole (lane_in pages) A A' r to
       listed t b =
           let kids = in_list_kids t.whole b in
           record {
             ts = not_if t.whole.detail ++ (tok IN ∷ within (piece_at kids.second).toks);
             led = in_list_led t.whole b kids;
-            puts = puts_as (ap₂ (λ x y. not_if x ++ (tok IN ∷ within y)) (sym (detail_of t.whole G)) (any_toks kids.second) ∙ in_said d (inside_toks (nodes_of io) (i - 1) (in_any kids.second))) (p after (spell_at h s (in_any kids.second)));
+            puts = puts_as (ap₂ (λ x y. not_if x ++ (tok IN ∷ within y)) (sym (detail_of t.whole G)) (any_toks kids.second) ∙ in_said d (inside_toks (nodes_of pages) (i - 1) (in_any kids.second))) (p after (spell_at h s (in_any kids.second)));
           }
 
-      asked : (t : Term (nodes_of io) i) → t.whole.code ≡ node_in_query → Tailed t.whole (lane_in io) A A' r to
+      asked : (t : Term (nodes_of pages) i) → t.whole.code ≡ node_in_query → Tailed t.whole (lane_in pages) A A' r to
       asked t b =
           let kids = in_query_kids t.whole b in
           record {
             ts = not_if t.whole.detail ++ (tok IN ∷ within (piece_at kids.second).toks);
             led = in_query_led t.whole b kids;
-            puts = puts_as (ap (λ x. not_if x ++ (tok IN ∷ within (piece_at kids.second).toks)) (sym (detail_of t.whole G)) ∙ in_said d (inside_toks (nodes_of io) (i - 1) (in_query kids.second))) (p after (spell_at h s (in_query kids.second)));
+            puts = puts_as (ap (λ x. not_if x ++ (tok IN ∷ within (piece_at kids.second).toks)) (sym (detail_of t.whole G)) ∙ in_said d (inside_toks (nodes_of pages) (i - 1) (in_query kids.second))) (p after (spell_at h s (in_query kids.second)));
           }
 
-module _ {io : Lists} {i : ℕ} where
-  pub in_given : {c : ℕ} → Field 0 io i c → node_in_list ≤ c → c < node_between → Term (nodes_of io) i → Inside (nodes_of io) (i - 1)
+module _ {pages : Pages} {i : ℕ} where
+  pub in_given : {c : ℕ} → Field 0 pages i c → node_in_list ≤ c → c < node_between → Term (nodes_of pages) i → Inside (nodes_of pages) (i - 1)
   in_given {c} F lo hi t =
       by_bool (eqb c node_in_list) (λ e. in_any (in_list_kids t.whole (sym (code_of t.whole F) ∙ eqb_eq c node_in_list e)).second)
       (λ e. let n : c ≡ node_in_list → ⊥ = λ q. absurd (0≢1 (sym e ∙ eqb-true c node_in_list q)) in let b : c ≡ node_in_query = omega (arith, lo, hi, n) in in_query (in_query_kids t.whole (sym (code_of t.whole F) ∙ b)).second)
 
 -- BETWEEN low AND high
-pub bounds_by : {io : Lists} {A A₁ A₂ A₃ A' : List ℕ} {r m m₂ m₃ to i d j l : ℕ} → Field 1 io i d → Puts (lane_in io) A₃ A' r m (not_if d ++ (tok BETWEEN ∷ [])) → l ≡ before_of (nodes_of io) (i - 1) → Spells (term_toks 5) (nodes_of io) (lane_in io) A₂ A₃ m m₂ l
-    → Puts (lane_in io) A₁ A₂ m₂ m₃ (tok AND ∷ []) → j ≡ i - 1 → Spells (term_toks 5) (nodes_of io) (lane_in io) A A₁ m₃ to j → Bounds io A A' r to i
+pub bounds_by : {pages : Pages} {A A₁ A₂ A₃ A' : List ℕ} {r m m₂ m₃ to i d j l : ℕ} → Field 1 pages i d → Puts (lane_in pages) A₃ A' r m (not_if d ++ (tok BETWEEN ∷ [])) → l ≡ before_of (nodes_of pages) (i - 1) → Spells (term_toks 5) (nodes_of pages) (lane_in pages) A₂ A₃ m m₂ l
+    → Puts (lane_in pages) A₁ A₂ m₂ m₃ (tok AND ∷ []) → j ≡ i - 1 → Spells (term_toks 5) (nodes_of pages) (lane_in pages) A A₁ m₃ to j → Bounds pages A A' r to i
 bounds_by {d = d} G p g low a h high =
     record {
       told = λ w.
@@ -283,41 +284,41 @@ part_there (inr w) = (known w).there
 pub part_on : {N : List ℕ} {i : ℕ} → Whole a_join N i → Maybe a_constraint N (i - 1)
 part_on w = (join_kids w (join_is w)).second
 
-module _ {io : Lists} {A A' : List ℕ} {r to i c : ℕ} (F : Field 0 io i c) where
-  pub constraint_on : c ≡ node_join → {j : ℕ} → j ≡ i - 1 → Spells (bare_toks a_constraint) (nodes_of io) (lane_in io) A A' r to j → Spells constraint_toks (nodes_of io) (lane_in io) A A' r to i
+module _ {pages : Pages} {A A' : List ℕ} {r to i c : ℕ} (F : Field 0 pages i c) where
+  pub constraint_on : c ≡ node_join → {j : ℕ} → j ≡ i - 1 → Spells (bare_toks a_constraint) (nodes_of pages) (lane_in pages) A A' r to j → Spells constraint_toks (nodes_of pages) (lane_in pages) A A' r to i
   constraint_on e h s = record { told = λ p. go p }
     where
-      go : (p : Part (nodes_of io) i) → Puts (lane_in io) A A' r to (constraint_toks (nodes_of io) i p)
+      go : (p : Part (nodes_of pages) i) → Puts (lane_in pages) A A' r to (constraint_toks (nodes_of pages) i p)
       go (inl w) = absurd (⊎_elim (λ q. let x = code_of w F in omega (arith, e, q, x)) (λ q. let x = code_of w F in omega (arith, e, q, x)) (source_is w))
       go (inr w) = spell_at h s (join_kids w (join_is w)).second
 
-  pub constraint_none : (c ≡ node_join → ⊥) → Puts (lane_in io) A A' r to [] → Spells constraint_toks (nodes_of io) (lane_in io) A A' r to i
+  pub constraint_none : (c ≡ node_join → ⊥) → Puts (lane_in pages) A A' r to [] → Spells constraint_toks (nodes_of pages) (lane_in pages) A A' r to i
   constraint_none n x = record { told = λ p. go p }
     where
-      go : (p : Part (nodes_of io) i) → Puts (lane_in io) A A' r to (constraint_toks (nodes_of io) i p)
+      go : (p : Part (nodes_of pages) i) → Puts (lane_in pages) A A' r to (constraint_toks (nodes_of pages) i p)
       go (inl w) = x
       go (inr w) = absurd (n (code_of w F ∙ join_is w))
 
 -- its ON or USING
-module _ {io : Lists} {i c : ℕ} (F : Field 0 io i c) where
-  pub on_there : {k : ℕ} → c ≡ k → 0 < k → (m : Maybe a_constraint (nodes_of io) i) → (w : Whole a_constraint (nodes_of io) i) × (w.code ≡ k) × (may_piece m ≡ piece_at w)
+module _ {pages : Pages} {i c : ℕ} (F : Field 0 pages i c) where
+  pub on_there : {k : ℕ} → c ≡ k → 0 < k → (m : Maybe a_constraint (nodes_of pages) i) → (w : Whole a_constraint (nodes_of pages) i) × (w.code ≡ k) × (may_piece m ≡ piece_at w)
   on_there {k} e h m =
-      let q : code_at (nodes_of io) i ≡ k = sym (code_at_lem F (may_there m).0) ∙ e in
+      let q : code_at (nodes_of pages) i ≡ k = sym (code_at_lem F (may_there m).0) ∙ e in
       let x = constraint_here m (omega (arith, h, q)) in
       (x.0, code_is x.0 q, x.1)
 
-  pub on_said : (e : c ≡ node_on) (m : Maybe a_constraint (nodes_of io) i) → (x : Whole an_expr (nodes_of io) (i - 1)) × (bare_toks a_constraint (nodes_of io) i m ≡ may_toks an_expr (tok ON ∷ []) (nodes_of io) (i - 1) (inl x))
+  pub on_said : (e : c ≡ node_on) (m : Maybe a_constraint (nodes_of pages) i) → (x : Whole an_expr (nodes_of pages) (i - 1)) × (bare_toks a_constraint (nodes_of pages) i m ≡ may_toks an_expr (tok ON ∷ []) (nodes_of pages) (i - 1) (inl x))
   on_said e m =
       let k = on_there e (omega arith) m in
       let kids = on_kids k.0 k.1 in
       (kids.first, ap (λ z. z.toks) k.2 ∙ (on_spelt k.0 k.1 kids).toks ∙ sym (after_here (tok ON ∷ []) refl kids.first))
 
-  pub using_said : (e : c ≡ node_using) (m : Maybe a_constraint (nodes_of io) i) → (x : Row a_name (nodes_of io) i) × (bare_toks a_constraint (nodes_of io) i m ≡ using_toks (nodes_of io) i x)
+  pub using_said : (e : c ≡ node_using) (m : Maybe a_constraint (nodes_of pages) i) → (x : Row a_name (nodes_of pages) i) × (bare_toks a_constraint (nodes_of pages) i m ≡ using_toks (nodes_of pages) i x)
   using_said e m =
       let k = on_there e (omega arith) m in
       (row_of k.0 (shaped_more (using_shape k.0 k.1)), ap (λ z. z.toks) k.2 ∙ (using_spelt k.0 k.1).toks)
 
-  pub on_none : (c ≡ node_on → ⊥) → (c ≡ node_using → ⊥) → (m : Maybe a_constraint (nodes_of io) i) → bare_toks a_constraint (nodes_of io) i m ≡ []
+  pub on_none : (c ≡ node_on → ⊥) → (c ≡ node_using → ⊥) → (m : Maybe a_constraint (nodes_of pages) i) → bare_toks a_constraint (nodes_of pages) i m ≡ []
   on_none a b m = let q = code_at_lem F (may_there m).0 in constraint_gone m (λ z. a (q ∙ z)) (λ z. b (q ∙ z))
 
 -- ── an operand ──

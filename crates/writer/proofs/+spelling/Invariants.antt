@@ -101,31 +101,31 @@ abbrev pub decreases-within : goal.decreases-within
 decreases-within l = rank 10 l.i
 
 abbrev pub invariant-ex-loop-out : goal.invariant-ex-loop-out
-invariant-ex-loop-out l = (l.pairs + l.i ≤ l.end) × (length l.out ≡ length l.initial.out) × ((t : Term (nodes_of l.io) l.end) → Along (nodes_of l.io) (lane_in l.io) l.initial.out l.out l.i l.s l.pairs l.to l.from (at l.ask (piece_at t.whole)))
+invariant-ex-loop-out l = (l.pairs + l.i ≤ l.end) × (length l.out ≡ length l.initial.out) × ((t : Term (nodes_of l.pages) l.end) → Along (nodes_of l.pages) (lane_in l.pages) l.initial.out l.out l.i l.s l.pairs l.to l.from (at l.ask (piece_at t.whole)))
 
 abbrev pub decreases-ex-loop-out : goal.decreases-ex-loop-out
 decreases-ex-loop-out l = l.i
 
 abbrev pub invariant-from-loop-n : goal.invariant-from-loop-n
-invariant-from-loop-n l = (l.j < l.i) × (length l.out ≡ length l.initial.out) × ((w : Whole a_from (nodes_of l.io) l.i) → Yet joined (FromRest (nodes_of l.io)) (lane_in l.io) l.initial.out l.out l.j l.n l.to l.end (joined (P w.kids)))
+invariant-from-loop-n l = (l.j < l.i) × (length l.out ≡ length l.initial.out) × ((w : Whole a_from (nodes_of l.pages) l.i) → Yet joined (FromRest (nodes_of l.pages)) (lane_in l.pages) l.initial.out l.out l.j l.n l.to l.end (joined (P w.kids)))
 
 abbrev pub decreases-from-loop-n : goal.decreases-from-loop-n
 decreases-from-loop-n l = l.n
 
 abbrev pub invariant-list-loop-n : goal.invariant-list-loop-n
-invariant-list-loop-n l = (l.j < l.i) × (length l.out ≡ length l.initial.out) × ((t : Terms (nodes_of l.io) l.i) → Yet (parted (tok COMMA)) (Many t.class (nodes_of l.io)) (lane_in l.io) l.initial.out l.out l.j l.n l.to l.from (terms_toks (nodes_of l.io) l.i t))
+invariant-list-loop-n l = (l.j < l.i) × (length l.out ≡ length l.initial.out) × ((t : Terms (nodes_of l.pages) l.i) → Yet (parted (tok COMMA)) (Many t.class (nodes_of l.pages)) (lane_in l.pages) l.initial.out l.out l.j l.n l.to l.from (terms_toks (nodes_of l.pages) l.i t))
 
 abbrev pub decreases-list-loop-n : goal.decreases-list-loop-n
 decreases-list-loop-n l = l.n
 
 abbrev pub invariant-values-loop-n : goal.invariant-values-loop-n
-invariant-values-loop-n l = (l.j < l.i) × (length l.out ≡ length l.initial.out) × ((w : Coded node_values (nodes_of l.io) l.i) → Yet rows (Many (list_of an_expr) (nodes_of l.io)) (lane_in l.io) l.initial.out l.out l.j l.n l.to l.from (rows (P w.whole.kids)))
+invariant-values-loop-n l = (l.j < l.i) × (length l.out ≡ length l.initial.out) × ((w : Coded node_values (nodes_of l.pages) l.i) → Yet rows (Many (list_of an_expr) (nodes_of l.pages)) (lane_in l.pages) l.initial.out l.out l.j l.n l.to l.from (rows (P w.whole.kids)))
 
 abbrev pub decreases-values-loop-n : goal.decreases-values-loop-n
 decreases-values-loop-n l = l.n
 
 abbrev pub invariant-whens-loop-n : goal.invariant-whens-loop-n
-invariant-whens-loop-n l = (l.j < l.i) × (length l.out ≡ length l.initial.out) × ((w : Coded node_case (nodes_of l.io) l.i) → Yet case_toks (CaseRest (nodes_of l.io)) (lane_in l.io) l.initial.out l.out l.j (l.n - 1) l.to l.from (whens_toks (nodes_of l.io) l.i w))
+invariant-whens-loop-n l = (l.j < l.i) × (length l.out ≡ length l.initial.out) × ((w : Coded node_case (nodes_of l.pages) l.i) → Yet case_toks (CaseRest (nodes_of l.pages)) (lane_in l.pages) l.initial.out l.out l.j (l.n - 1) l.to l.from (whens_toks (nodes_of l.pages) l.i w))
 
 abbrev pub decreases-whens-loop-n : goal.decreases-whens-loop-n
 decreases-whens-loop-n l = l.n

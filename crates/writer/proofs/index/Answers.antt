@@ -12,7 +12,7 @@ pub returns-then-detail-eq-NOT_INDEXED : goal.returns-then-detail-eq-NOT_INDEXED
 returns-then-detail-eq-NOT_INDEXED c = record { told = λ w. puts_as (index_not w (detail_of w.whole c.detail.ensures) c.if-detail-eq-NOT_INDEXED.true) c.words.ensures }
 
 pub returns-then-code-eq-ABSENT : goal.returns-then-code-eq-ABSENT
-returns-then-code-eq-ABSENT c = record { told = λ w. puts_as (index_none w (detail_of w.whole c.detail.ensures) c.if-detail-eq-NOT_INDEXED.false (ap (code_at (nodes_of c.args.io.now)) (sym c.last-x.ensures) ∙ is_absent (subst⁻¹ (Maybe a_name (nodes_of c.args.io.now)) c.last-x.ensures (table_kids w).fourth) c.code.ensures c.if-code-eq-ABSENT.true)) nothing_put }
+returns-then-code-eq-ABSENT c = record { told = λ w. puts_as (index_none w (detail_of w.whole c.detail.ensures) c.if-detail-eq-NOT_INDEXED.false (ap (code_at (nodes_of c.args.pages.now)) (sym c.last-x.ensures) ∙ is_absent (subst⁻¹ (Maybe a_name (nodes_of c.args.pages.now)) c.last-x.ensures (table_kids w).fourth) c.code.ensures c.if-code-eq-ABSENT.true)) nothing_put }
 
 pub returns : goal.returns
-returns c = record { told = λ w. let k = index_some w (detail_of w.whole c.detail.ensures) c.if-detail-eq-NOT_INDEXED.false (λ e. is_there (subst⁻¹ (Maybe a_name (nodes_of c.args.io.now)) c.last-x.ensures (table_kids w).fourth) c.code.ensures c.if-code-eq-ABSENT.false (ap (code_at (nodes_of c.args.io.now)) c.last-x.ensures ∙ e)) in puts_as k.1 (c.words-2.ensures after spell_at c.last-x.ensures c.name-n.ensures k.0) }
+returns c = record { told = λ w. let k = index_some w (detail_of w.whole c.detail.ensures) c.if-detail-eq-NOT_INDEXED.false (λ e. is_there (subst⁻¹ (Maybe a_name (nodes_of c.args.pages.now)) c.last-x.ensures (table_kids w).fourth) c.code.ensures c.if-code-eq-ABSENT.false (ap (code_at (nodes_of c.args.pages.now)) c.last-x.ensures ∙ e)) in puts_as k.1 (c.words-2.ensures after spell_at c.last-x.ensures c.name-n.ensures k.0) }

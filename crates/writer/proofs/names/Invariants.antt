@@ -8,7 +8,7 @@ use lib.ListN.{length}
 use Rattle.writer.proofs.names.Given as goal
 
 abbrev pub invariant-loop-n : goal.invariant-loop-n
-invariant-loop-n l = (length l.out ≡ length l.initial.out) × ((w : Row a_name (nodes_of l.io) l.i) → Yet (parted (tok l.sep)) (Many a_name (nodes_of l.io)) (lane_in l.io) l.initial.out l.out l.j l.n l.to l.from (parted (tok l.sep) (P w.kids)))
+invariant-loop-n l = (length l.out ≡ length l.initial.out) × ((w : Row a_name (nodes_of l.pages) l.i) → Yet (parted (tok l.sep)) (Many a_name (nodes_of l.pages)) (lane_in l.pages) l.initial.out l.out l.j l.n l.to l.from (parted (tok l.sep) (P w.kids)))
 
 abbrev pub decreases-loop-n : goal.decreases-loop-n
 decreases-loop-n l = l.n

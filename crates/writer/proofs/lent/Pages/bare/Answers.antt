@@ -2,7 +2,7 @@ use Rattle.writer.proofs.Said.{bare_on, bare_many, bare_other}
 use mathlib.Core.Path.{refl}
 use Prim.Native.Nat.{◌<◌}
 use native.Mathlib.Omega.{arith}
-use Rattle.writer.proofs.bare.Goals as goal
+use Rattle.writer.proofs.lent.Pages.bare.Goals as goal
 
 pub loop-i-init : goal.loop-i-init
 loop-i-init c = (omega arith, λ t. (t, refl))
