@@ -91,20 +91,16 @@ set_past [] i x h = refl
 set_past (a ∷ A) zero x h = absurd (omega (arith, h))
 set_past (a ∷ A) (suc i) x h = ap (λ z. a ∷ z) (set_past A i x (omega (arith, h)))
 
-pub put_none : {lane : ℕ} {A A' : List ℕ} {r to kind text : ℕ} → to ≡ 0 → Puts lane A A' r to (toktext kind text ∷ [])
-put_none e = record { puts = λ h. absurd (omega (arith, h, e)) }
-
-pub kind_number : {x : Numbers} {kind : ℕ} (text : ℕ) → x ≡ Kinds → kind ≡ lane_of (lane_of_numbers x) (toktext kind text)
+pub kind_number : {x : Numbers} (kind text : ℕ) → x ≡ Kinds → kind ≡ lane_of (lane_of_numbers x) (toktext kind text)
 unfolding choose
-kind_number text e = rw e refl
+kind_number kind text e = rw e refl
 
-pub text_number : {x : Numbers} (kind : ℕ) {text : ℕ} → x ≡ Texts → text ≡ lane_of (lane_of_numbers x) (toktext kind text)
+pub text_number : {x : Numbers} (kind text : ℕ) → x ≡ Texts → text ≡ lane_of (lane_of_numbers x) (toktext kind text)
 unfolding choose
-text_number kind e = rw e refl
+text_number kind text e = rw e refl
 
-pub put_one : {lane : ℕ} {A A' : List ℕ} {to : ℕ} (kind text : ℕ) {number : ℕ} → number ≡ lane_of lane (toktext kind text) → ((to - 1 < length A) × (A' ≡ set A (to - 1) number)) ⊎ ((length A ≤ to - 1) × (A' ≡ A)) → Puts lane A A' (to - 1) to (toktext kind text ∷ [])
-put_one {A = A} {A'} {to} kind text {number} n k = one_put (toktext kind text) (λ h. (refl, stored k ∙ ap (set A (to - 1)) n))
-  where
-    stored : ((to - 1 < length A) × (A' ≡ set A (to - 1) number)) ⊎ ((length A ≤ to - 1) × (A' ≡ A)) → A' ≡ set A (to - 1) number
-    stored (inl x) = x.1
-    stored (inr x) = x.1 ∙ sym (set_past A (to - 1) number x.0)
+pub put_one : {lane : ℕ} {A A' : List ℕ} {to : ℕ} (kind text : ℕ) {number : ℕ} → number ≡ lane_of lane (toktext kind text) → A' ≡ set A (to - 1) number → Puts lane A A' (to - 1) to (toktext kind text ∷ [])
+put_one {A = A} {to = to} kind text n e = one_put (toktext kind text) (λ h. (refl, e ∙ ap (set A (to - 1)) n))
+
+pub put_past : {lane : ℕ} {A : List ℕ} {to : ℕ} (kind text : ℕ) → length A ≤ to - 1 → Puts lane A A (to - 1) to (toktext kind text ∷ [])
+put_past {lane} {A} {to} kind text h = one_put (toktext kind text) (λ z. (refl, sym (set_past A (to - 1) (lane_of lane (toktext kind text)) h)))

@@ -18,21 +18,17 @@ use Rattle.grammar.specs.NodeNames.{node_absent, node_star, node_name_star, node
 use Rattle.grammar.specs.Reading.{choose}
 use Rattle.grammar.specs.Writing.{tok, toktext, after, node_str, binary_toks, binary_str, join_of, join_words}
 use Rattle.shapes.specs.Shape.{Class, a_name, an_expr, a_column, a_sort, a_source, a_join, a_query, a_body, a_from, a_constraint, absence, list_of, any_of, empty_list, Joining}
-use Rattle.scribe.proofs.Standing.{Puts}
-use Rattle.scribe.proofs.Tokens.{puts_as, ◌after◌}
 use Rattle.scribe.proofs.Whole.{Whole, piece_at}
 use Rattle.scribe.proofs.Kids.{known, Maybe, may_piece, may_there, Kids4, must, may}
 use Rattle.scribe.proofs.Spelt.{literal_kind, name_kind, next_of, name_spelt, null_spelt, star_spelt, name_star_kids, name_star_spelt, literal_spelt, expr_range, column_range, sort_is, source_is, join_is, join_detail, join_worded, parens_one, parens_some, piece_there, table_kids_lem, table_spelt, null_test_kids, collate_kids, column_kids, sort_kids}
 use Rattle.scribe.proofs.Clauses.{code_at, may_gone, may_here, clause_gone, clause_here}
 use Rattle.scribe.proofs.Leading.{backs, null_test_led, collate_led, column_led, sort_led}
-use Rattle.scribe.proofs.Parts.{Coded, Term, is_term, Leaf, Part, leads_of, node_toks, leaf_toks, coded_toks, alias_toks, schema_toks, titled_toks, index_toks, nulls_toks, way_toks, join_toks, source_of, opens, Spells}
+use Rattle.scribe.proofs.Parts.{Coded, Term, is_term, Leaf, Part, leads_of, node_toks, leaf_toks, coded_toks, alias_toks, schema_toks, titled_toks, index_toks, nulls_toks, way_toks, join_toks, source_of, opens}
 use Rattle.writer.specs.declared.lent.Pages.{Pages}
-use Rattle.writer.specs.Pages.{nodes_of, lane_in, Field, Bared, Taken, Closes}
+use Rattle.writer.specs.declared.spelling.Pen.{Pen}
+use Rattle.writer.specs.Pages.{nodes_of, Field, Bared, Taken, Wrote, Writ, Closes}
+use Rattle.writer.proofs.Pens.{◌after◌, wrote_as, writ_at, trailed}
 use Rattle.writer.proofs.Leaves.{code_at_lem, code_of, detail_of, children_of, backs_most}
-
--- what a callee wrote of whatever ends at a place, where the place is known otherwise
-pub spell_at : {X : List ℕ → ℕ → Type 0} {toks : (N : List ℕ) (i : ℕ) → X N i → List Tok} {N : List ℕ} {lane : ℕ} {A A' : List ℕ} {r to i j : ℕ} → i ≡ j → Spells toks N lane A A' r to i → (w : X N j) → Puts lane A A' r to (toks N j w)
-spell_at {toks = toks} {N = N} {lane = lane} {A = A} {A' = A'} {r = r} {to = to} e s = (subst (λ z. Spells toks N lane A A' r to z) e s).told
 
 -- ── numbers of records ──
 module _ {C : Class} {pages : Pages} {i r : ℕ} (m : Maybe C (nodes_of pages) i) (F : Field 0 pages i r) where
@@ -328,16 +324,13 @@ module _ {pages : Pages} {i r : ℕ} (b : BaredTo pages i r) {c : ℕ} (F : Fiel
   bare_other h = record { most = b.0; told = λ t. let v = b.1 t in (v.0, v.1, λ q. absurd (h (code_of v.0.whole F ∙ q))) }
 
 -- ── LP, so many times ──
-pub opens_none : (p : ℕ) → opens (p - p) [] ≡ []
+pub opens_none : opens 0 [] ≡ []
 unfolding opens
-opens_none p = ap (λ z. opens z []) (let e : p - p ≡ 0 = omega arith in e)
+opens_none = refl
 
-pub opens_next : (p n : ℕ) → n ≤ p → 0 < n → opens (p - (n - 1)) [] ≡ tok LP ∷ opens (p - n) []
+pub opens_next : (n : ℕ) → opens (n + 1) [] ≡ tok LP ∷ opens n []
 unfolding opens
-opens_next p n h g = ap (λ z. opens z []) (let e : p - (n - 1) ≡ suc (p - n) = omega (arith, h, g) in e)
-
-pub opens_all : (p n : ℕ) → n ≤ 0 → opens p [] ≡ opens (p - n) []
-opens_all p n h = ap (λ z. opens z []) (let e : p ≡ p - n = omega (arith, h) in e)
+opens_next n = ap (λ z. opens z []) (let e : n + 1 ≡ suc n = omega arith in e)
 
 pub more_most : (b : Bool) (n : ℕ) {r : ℕ} → r ≡ choose b (n + 1) n → r ≤ n + 1
 unfolding choose
@@ -345,37 +338,21 @@ more_most true n e = omega (arith, e)
 more_most false n e = omega (arith, e)
 
 -- ── where no expression comes after the first child ──
-module _ {pages : Pages} {A A' : List ℕ} {r to i c : ℕ} where
-  pub closes_null : {d : ℕ} → c ≡ node_null_test → Field 1 pages i d → Puts (lane_in pages) A A' r to (tok d ∷ []) → Closes c pages A A' r to i
-  closes_null {d} e F p =
-      record {
-        told = λ t l q a b f g.
-            let k = sym q ∙ e in
-            record { ts = tok t.whole.detail ∷ []; led = null_test_led t.whole k (null_test_kids t.whole k); puts = puts_as (ap (λ z. tok z ∷ []) (sym (detail_of t.whole F))) p };
-      }
+module _ {pages : Pages} {p q : Pen} {i c : ℕ} where
+  pub closes_null : {d : ℕ} → c ≡ node_null_test → Field 1 pages i d → Wrote pages p q (tok d ∷ []) → Closes c pages p q i
+  closes_null e F s = record { told = λ t l h a b f g. let k = sym h ∙ e in trailed (null_test_led t.whole k (null_test_kids t.whole k)) (wrote_as (ap (λ z. tok z ∷ []) (sym (detail_of t.whole F))) s) }
 
-  pub closes_column : {j : ℕ} → c ≡ node_column → j ≡ i - 1 → Spells alias_toks (nodes_of pages) (lane_in pages) A A' r to j → Closes c pages A A' r to i
-  closes_column e h s =
-      record {
-        told = λ t l q a b f g.
-            let k = sym q ∙ e in
-            let x = column_kids t.whole k in
-            record { ts = (after) (tok AS ∷ []) (may_piece x.second); led = column_led t.whole k x; puts = spell_at h s x.second };
-      }
+  pub closes_column : {j : ℕ} → c ≡ node_column → j ≡ i - 1 → Writ alias_toks pages p q j → Closes c pages p q i
+  closes_column e h s = record { told = λ t l n a b f g. let k = sym n ∙ e in let x = column_kids t.whole k in trailed (column_led t.whole k x) (writ_at h s x.second) }
 
-  pub closes_sort : {d : ℕ} → c ≡ node_sort → Field 1 pages i d → Puts (lane_in pages) A A' r to (way_toks d) → Closes c pages A A' r to i
-  closes_sort {d} e F p =
-      record {
-        told = λ t l q a b f g.
-            let k = sym q ∙ e in
-            record { ts = way_toks t.whole.detail; led = sort_led t.whole k (sort_kids t.whole k); puts = puts_as (ap way_toks (sym (detail_of t.whole F))) p };
-      }
+  pub closes_sort : {d : ℕ} → c ≡ node_sort → Field 1 pages i d → Wrote pages p q (way_toks d) → Closes c pages p q i
+  closes_sort e F s = record { told = λ t l h a b f g. let k = sym h ∙ e in trailed (sort_led t.whole k (sort_kids t.whole k)) (wrote_as (ap way_toks (sym (detail_of t.whole F))) s) }
 
-  pub closes_collate : (c ≡ 40 → ⊥) → (c ≡ 7 → ⊥) → (c ≡ 14 → ⊥) → {j m : ℕ} {A₁ : List ℕ} → j ≡ i - 1 → Spells (node_toks a_name) (nodes_of pages) (lane_in pages) A A₁ m to j → Puts (lane_in pages) A₁ A' r m (tok COLLATE ∷ []) → Closes c pages A A' r to i
-  closes_collate x y z h s p =
+  pub closes_collate : (c ≡ 40 → ⊥) → (c ≡ 7 → ⊥) → (c ≡ 14 → ⊥) → {j : ℕ} {o : Pen} → j ≡ i - 1 → Writ (node_toks a_name) pages p o j → Wrote pages o q (tok COLLATE ∷ []) → Closes c pages p q i
+  closes_collate x y z h s n =
       record {
-        told = λ t l q a b f g.
-            let k : t.whole.code ≡ 44 = sym q ∙ leads_last (ap leads_of q ∙ l) y z a x f g b in
+        told = λ t l e a b f g.
+            let k : t.whole.code ≡ 44 = sym e ∙ leads_last (ap leads_of e ∙ l) y z a x f g b in
             let kids = collate_kids t.whole k in
-            record { ts = tok COLLATE ∷ (piece_at kids.second).toks; led = collate_led t.whole k kids; puts = ◌after◌ p (spell_at h s kids.second) };
+            trailed (collate_led t.whole k kids) (◌after◌ n (writ_at h s kids.second));
       }

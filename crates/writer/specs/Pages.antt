@@ -1,5 +1,6 @@
 -- What the writer's functions promise each other. Definitions only; nothing published rests on them.
 use Rattle.std.specs.Prelude.{true, List, ◌≡◌, ℕ, ◌+◌, ◌-◌, ◌*◌, ◌<◌, ◌≤◌, length, get_or}
+use Rattle.writer.specs.declared.spelling.Pen.{Pen}
 use Rattle.writer.specs.declared.lent.Pages.{Pages}
 use Rattle.writer.specs.declared.lent.Numbers.{Numbers}
 use Rattle.writer.specs.declared.lent.Numbers.TheVariants.{Kinds, Texts}
@@ -9,11 +10,12 @@ use Rattle.grammar.specs.NodeNames.{node_parens, node_binary, node_in_list, node
 use Rattle.grammar.specs.Nodes.{count}
 use Rattle.grammar.specs.Writing.{node_str}
 use Rattle.grammar.specs.Promise.{Reads, Writes}
+use Rattle.shapes.specs.Shape.{Class}
 use Rattle.scribe.proofs.Standing.{Puts}
-use Rattle.scribe.proofs.Whole.{piece_at}
+use Rattle.scribe.proofs.Whole.{Whole, piece_at}
 use Rattle.scribe.proofs.Leading.{backs}
 use Rattle.scribe.proofs.Clauses.{children_at}
-use Rattle.scribe.proofs.Parts.{Coded, Term, Part, leads_of, source_of, Spells, Tailed}
+use Rattle.scribe.proofs.Parts.{Coded, Term, Part, leads_of, source_of, Tailed}
 
 -- the records that are lent
 abbrev pub nodes_of : Pages → List ℕ
@@ -49,23 +51,31 @@ pub record Taken (pages : Pages) (i r : ℕ) : Type 0 where
   pub is : (p : Part (nodes_of pages) i) → r ≡ source_of (nodes_of pages) i p
 
 -- ── writes ──
-abbrev pub Wrote : Pages → List ℕ → List ℕ → ℕ → ℕ → List Tok → Type 0
-Wrote pages A A' r to ts = Puts (lane_in pages) A A' r to ts
+-- a pen wrote these tokens, before those that it had written: in the same list, which was p's and is q's
+pub record Wrote (pages : Pages) (p q : Pen) (ts : List Tok) : Type 0 where
+  pub same : q.out.ghost_name ≡ p.out.ghost_name
+  pub puts : Puts (lane_in pages) p.out.now q.out.now q.to p.to ts
 
-abbrev pub Writ : {X : List ℕ → ℕ → Type 0} → ((N : List ℕ) (i : ℕ) → X N i → List Tok) → Pages → List ℕ → List ℕ → ℕ → ℕ → ℕ → Type 0
-Writ toks pages A A' r to i = Spells toks (nodes_of pages) (lane_in pages) A A' r to i
+-- .. whatever ends at i, its tokens
+pub record Writ {X : List ℕ → ℕ → Type 0} (toks : (N : List ℕ) (i : ℕ) → X N i → List Tok) (pages : Pages) (p q : Pen) (i : ℕ) : Type 0 where
+  pub told : (w : X (nodes_of pages) i) → Wrote pages p q (toks (nodes_of pages) i w)
 
--- of a term whose first child stands first, all but that child: where the term has this strength
-pub record Trails (k : ℕ) (pages : Pages) (A A' : List ℕ) (r to i : ℕ) : Type 0 where
-  pub told : (t : Term (nodes_of pages) i) → leads_of t.whole.code ≡ true → k ≡ node_str t.whole.code t.whole.detail → Tailed t.whole (lane_in pages) A A' r to
+-- .. of a node whose first child stands first, all but that child
+pub record Trailed {C : Class} {N : List ℕ} {i : ℕ} (w : Whole C N i) (pages : Pages) (p q : Pen) : Type 0 where
+  pub same : q.out.ghost_name ≡ p.out.ghost_name
+  pub tail : Tailed w (lane_in pages) p.out.now q.out.now q.to p.to
+
+-- .. of such a term, where it has this strength
+pub record Trails (k : ℕ) (pages : Pages) (p q : Pen) (i : ℕ) : Type 0 where
+  pub told : (t : Term (nodes_of pages) i) → leads_of t.whole.code ≡ true → k ≡ node_str t.whole.code t.whole.detail → Trailed t.whole pages p q
 
 -- .. where no expression comes after that child
-pub record Closes (c : ℕ) (pages : Pages) (A A' : List ℕ) (r to i : ℕ) : Type 0 where
-  pub told : (t : Term (nodes_of pages) i) → leads_of t.whole.code ≡ true → c ≡ t.whole.code → (c ≡ node_binary → ⊥) → (c ≡ node_between → ⊥) → (c ≡ node_in_list → ⊥) → (c ≡ node_in_query → ⊥) → Tailed t.whole (lane_in pages) A A' r to
+pub record Closes (c : ℕ) (pages : Pages) (p q : Pen) (i : ℕ) : Type 0 where
+  pub told : (t : Term (nodes_of pages) i) → leads_of t.whole.code ≡ true → c ≡ t.whole.code → (c ≡ node_binary → ⊥) → (c ≡ node_between → ⊥) → (c ≡ node_in_list → ⊥) → (c ≡ node_in_query → ⊥) → Trailed t.whole pages p q
 
 -- .. of BETWEEN
-pub record Bounds (pages : Pages) (A A' : List ℕ) (r to i : ℕ) : Type 0 where
-  pub told : (w : Coded node_between (nodes_of pages) i) → Tailed w.whole (lane_in pages) A A' r to
+pub record Bounds (pages : Pages) (p q : Pen) (i : ℕ) : Type 0 where
+  pub told : (w : Coded node_between (nodes_of pages) i) → Trailed w.whole pages p q
 
 -- no reading has more records: 8 for each token and the end (`Few` of the reader)
 abbrev pub MOST : ℕ

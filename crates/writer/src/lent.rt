@@ -2,7 +2,8 @@
 
 ghost use Rattle.std.specs.Prelude.{◌≡◌, ◌-◌, ◌<◌, ◌≤◌};
 ghost use Rattle.grammar.specs.Sizes.{WIDTH};
-ghost use Rattle.grammar.specs.Writing.{node_str, binary_str};
+ghost use Rattle.grammar.specs.Writing.{toktext, node_str, binary_str};
+ghost use Rattle.scribe.proofs.Standing.{lane_of};
 ghost use Rattle.kinds.specs.Strength.{strength_table};
 ghost use Rattle.scribe.proofs.Whole.{before_of};
 ghost use Rattle.scribe.proofs.Leading.{backs};
@@ -44,7 +45,17 @@ pub fn last(i: u32) -> u32
 }
 
 impl Pages<'_> {
-    ghost use Rattle.writer.specs.Pages.{nodes_of, Field, First, Bared, Taken};
+    ghost use Rattle.writer.specs.Pages.{nodes_of, lane_in, Field, First, Bared, Taken};
+
+    // The number of a token that is written.
+    pub fn number(&self, kind: u32, text: u32) -> u32
+        ensures { result ≡ lane_of (lane_in self.now) (toktext kind text) }
+    {
+        match self.numbers {
+            Numbers::Kinds => kind,
+            Numbers::Texts => text,
+        }
+    }
 
     // A number of the record of the node that ends at i; 0 where there is none.
     fn field(&self, i: u32, f: usize) -> u32

@@ -26,4 +26,4 @@ pub walk-requires-2 : goal.walk-requires-2
 walk-requires-2 c = coded c.requires.1 (query_is c.requires.1)
 
 pub returns : goal.returns
-returns c = (walks_whole c.requires.2 c.walk-count.ensures refl c.requires.3 (let k = ap length (ap (λ z. z ++ c.args.out_kinds.now) (none_left c.walk-count.new.out c.walk-count.auto.out)) in omega (arith, k, c.if-need-out_kinds.false)) refl (spells_in (ap (λ z. z ++ c.args.out_kinds.now) (none_left c.walk-count.new.out c.walk-count.auto.out)) c.walk.ensures) (omega arith) c.walk-2.ensures, tt)
+returns c = (walks_whole c.requires.2 c.walk-count.ensures refl c.requires.3 (let k = ap length (ap (λ z. z ++ c.args.out_kinds.now) (none_left c.walk-count.new.out c.walk-count.auto.out)) in omega (arith, k, c.if-need-out_kinds.false)) (spells_in (ap (λ z. z ++ c.args.out_kinds.now) (none_left c.walk-count.new.out c.walk-count.auto.out)) c.walk.ensures) c.walk-2.ensures, tt)
