@@ -1,15 +1,12 @@
 -- From the walks of a table to the call's promise. Assumes nothing.
-use mathlib.Core.List.{List, [], ◌∷◌}
-use mathlib.Core.Path.{◌≡◌, refl, subst}
+use mathlib.Core.List.{List}
+use mathlib.Core.Path.{◌≡◌, subst}
 use Prim.Native.Nat.{ℕ, ◌+◌, ◌-◌, ◌<◌, ◌≤◌}
 use lib.ListN.{length}
 use native.Mathlib.Omega.{arith}
-use Rattle.theory.specs.Trees.{Tok}
 use Rattle.grammar.specs.NodeNames.{node_query}
 use Rattle.grammar.specs.Promise.{Reads}
 use Rattle.shapes.specs.Shape.{a_query}
-use Rattle.scribe.proofs.Standing.{Puts}
-use Rattle.scribe.proofs.Tokens.{puts_text}
 use Rattle.scribe.proofs.Whole.{Whole, piece_at}
 use Rattle.scribe.proofs.Spelt.{query_is}
 use Rattle.scribe.proofs.Parts.{coded_toks, Spells}

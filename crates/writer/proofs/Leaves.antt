@@ -1,12 +1,9 @@
 -- What the reads of the table and the writing of one token come to. Assumes nothing.
-use mathlib.Core.List.{List, [], ◌∷◌, map}
-use mathlib.Core.Logic.{◌⊎◌, inl, inr}
+use mathlib.Core.List.{List, [], ◌∷◌}
 use mathlib.Core.Path.{◌≡◌, refl, sym, ap, ap₂, ◌∙◌}
 use Prim.Native.Nat.{ℕ, zero, suc, ◌+◌, ◌-◌, ◌*◌, ◌<◌, ◌≤◌}
 use lib.ListN.{length, get_or, set}
 use native.Mathlib.Omega.{arith}
-use borrow.Author.Tests.{ne_eqb}
-use Rattle.theory.proofs.Cases.{eqb-true}
 use Rattle.kinds.proofs.StrengthTable.{past}
 use Rattle.grammar.specs.Sizes.{WIDTH}
 use Rattle.grammar.specs.Reading.{choose}

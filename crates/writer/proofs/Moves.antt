@@ -1,19 +1,19 @@
 -- From what a function of the cycle is given to what it gives its callees, and its tokens by theirs. Assumes nothing.
 use mathlib.Core.Bool.{true, false}
 use mathlib.Core.List.{List, [], ◌∷◌, ◌++◌, append_assoc, append-nil}
-use mathlib.Core.Logic.{◌⊎◌, inl, inr, ⊎_elim}
+use mathlib.Core.Logic.{inl, inr, ⊎_elim}
 use mathlib.Core.Path.{◌≡◌, refl, sym, ap, ap₂, ◌∙◌}
 use Prim.Native.Nat.{ℕ, ◌+◌, ◌-◌, ◌<◌, ◌≤◌}
 use lib.Dec.{eqb}
 use native.Mathlib.Omega.{arith}
 use Rattle.theory.specs.Trees.{Tok}
 use Rattle.theory.proofs.Cases.{0≢1, eqb-true, eqb_eq, by_bool}
-use Rattle.kinds.specs.Kinds.{AND, AS, BETWEEN, BY, CASE, CAST, DISTINCT, DOT, ELSE, END, EXISTS, FROM, GROUP, IN, LP, ON, ORDER, RP, STAR, USING}
+use Rattle.kinds.specs.Kinds.{AND, AS, BETWEEN, BY, CASE, CAST, DISTINCT, DOT, ELSE, END, EXISTS, GROUP, IN, LP, ON, ORDER, RP, STAR}
 use Rattle.grammar.specs.NodeNames.{node_query, node_list, node_join, node_on, node_using, node_names, node_call, node_parens, node_subquery, node_exists, node_case, node_cast, node_prefix, node_binary, node_in_list, node_in_query, node_between}
 use Rattle.grammar.specs.Reading.{choose}
-use Rattle.grammar.specs.Writing.{at, after as put_after, within, parted, rows, grouped, binary_toks, binary_str, not_if, node_str, tok}
+use Rattle.grammar.specs.Writing.{at, after as put_after, within, parted, grouped, binary_toks, binary_str, not_if, node_str, tok}
 use Rattle.canon.proofs.Folds.{P}
-use Rattle.shapes.specs.Shape.{Class, a_query, a_body, a_column, a_from, a_source, a_join, a_constraint, a_sort, an_expr, a_name, absence, list_of, any_of, empty_list, many_of, Shaped, shaped_more}
+use Rattle.shapes.specs.Shape.{Class, a_query, a_source, a_join, a_constraint, a_sort, an_expr, a_name, list_of, any_of, many_of, Shaped, shaped_more}
 use Rattle.scribe.proofs.Whole.{Whole, piece_at, before_of}
 use Rattle.scribe.proofs.Kids.{known, kids_stand, Maybe, may_piece, may_there}
 use Rattle.scribe.proofs.Spelt.{binary_kids, between_kids, in_list_kids, in_query_kids, subquery_kids, subquery_spelt, exists_kids, exists_spelt, cast_kids, cast_spelt, on_kids, on_spelt, using_shape, using_spelt, join_kids, join_spelt, names_shape, names_spelt, list_spelt, call_kids, CallKids, call_args, call_star, call_args_spelt, call_star_spelt, parens_shape, parens_spelt, str_binary, at_zero, after_here, query_is, join_is, source_is, list_is, any_is, expr_range, column_range, sort_is}

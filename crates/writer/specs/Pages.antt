@@ -1,5 +1,5 @@
 -- What the writer's functions promise each other. Definitions only; nothing published rests on them.
-use Rattle.std.specs.Prelude.{true, List, ◌≡◌, ℕ, ◌+◌, ◌-◌, ◌*◌, ◌<◌, ◌≤◌, length, get_or}
+use Rattle.std.specs.Prelude.{true, List, ◌≡◌, ℕ, ◌+◌, ◌-◌, ◌*◌, ◌<◌, ◌≤◌, get_or}
 use Rattle.writer.specs.declared.spelling.Pen.{Pen}
 use Rattle.writer.specs.declared.lent.Pages.{Pages}
 use Rattle.writer.specs.declared.lent.Numbers.{Numbers}

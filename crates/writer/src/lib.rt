@@ -8,7 +8,6 @@ mod spelling;
 ghost use Rattle.std.specs.Prelude.{◌≡◌, ◌<◌, ◌≤◌, length};
 ghost use Rattle.grammar.specs.NodeNames.{node_query};
 ghost use Rattle.grammar.specs.Promise.{Writes};
-ghost use Rattle.kinds.specs.Strength.{strength_table};
 ghost use Rattle.shapes.specs.Shape.{a_query};
 ghost use Rattle.scribe.proofs.Whole.{Whole};
 ghost use Rattle.scribe.proofs.Parts.{Spells, Coded, coded_toks};
@@ -32,34 +31,26 @@ fn walk(pages: &Pages, records: u32, out: &mut [u32], to: u32) -> u32
     pen.to
 }
 
-// The three walks.
-fn walks(
-    nodes: &[u32],
-    strengths: &[u32],
-    records: u32,
-    out_kinds: &mut [u32],
-    out_texts: &mut [u32],
-) -> Answer
-    requires { (strengths.now ≡ strength_table) × Whole a_query nodes.now records × (records ≤ MOST) × (length out_kinds.old ≡ length out_texts.old) }
+// The three walks. No part of `write`: what lies on the stack here is not there while `write` reads.
+#[inline(never)]
+fn walks(nodes: &[u32], records: u32, out_kinds: &mut [u32], out_texts: &mut [u32]) -> Answer
+    requires { Whole a_query nodes.now records × (records ≤ MOST) × (length out_kinds.old ≡ length out_texts.old) }
     ensures { Walks nodes.now records out_kinds.old out_texts.old (number result) (place result) out_kinds.new out_texts.new × Plain result }
 {
-    let kinds = Pages {
+    let strengths = kinds::strengths();
+    let mut pages = Pages {
         nodes,
-        strengths,
+        strengths: &strengths,
         numbers: Numbers::Kinds,
     };
-    let texts = Pages {
-        nodes,
-        strengths,
-        numbers: Numbers::Texts,
-    };
-    let count = HIGH - walk(&kinds, records, &mut out_kinds[..0], HIGH);
+    let count = HIGH - walk(&pages, records, &mut out_kinds[..0], HIGH);
     let need = count as usize;
     if need > out_kinds.len() {
         return Answer::Refused(10, need);
     }
-    walk(&kinds, records, out_kinds, count);
-    walk(&texts, records, out_texts, count);
+    walk(&pages, records, out_kinds, count);
+    pages.numbers = Numbers::Texts;
+    walk(&pages, records, out_texts, count);
     Answer::Accepted(need)
 }
 
@@ -81,6 +72,5 @@ pub fn write<'a>(
     let Answer::Accepted(records) = got else {
         return got;
     };
-    let strengths = kinds::strengths();
-    walks(nodes, &strengths, records as u32, out_kinds, out_texts)
+    walks(nodes, records as u32, out_kinds, out_texts)
 }

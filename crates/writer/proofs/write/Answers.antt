@@ -17,7 +17,7 @@ pub overflow_cast-records : goal.overflow_cast-records
 overflow_cast-records c = let k = (few_records (subst (λ z. Reads c.args.kinds.now c.args.texts.now c.args.nodes.now (number z) (place z) c.read-got.new.nodes) c.in-Accepted.is c.read-got.ensures.0) (subst (λ z. Few c.args.kinds.now (place z)) c.in-Accepted.is c.read-got.ensures.1)) in omega (arith, k)
 
 pub walks-requires : goal.walks-requires
-walks-requires c = (c.strengths-strengths.ensures, whole_read (subst (λ z. Reads c.args.kinds.now c.args.texts.now c.args.nodes.now (number z) (place z) c.read-got.new.nodes) c.in-Accepted.is c.read-got.ensures.0), (few_records (subst (λ z. Reads c.args.kinds.now c.args.texts.now c.args.nodes.now (number z) (place z) c.read-got.new.nodes) c.in-Accepted.is c.read-got.ensures.0) (subst (λ z. Few c.args.kinds.now (place z)) c.in-Accepted.is c.read-got.ensures.1)), c.if-out_kinds-out_texts.false)
+walks-requires c = (whole_read (subst (λ z. Reads c.args.kinds.now c.args.texts.now c.args.nodes.now (number z) (place z) c.read-got.new.nodes) c.in-Accepted.is c.read-got.ensures.0), (few_records (subst (λ z. Reads c.args.kinds.now c.args.texts.now c.args.nodes.now (number z) (place z) c.read-got.new.nodes) c.in-Accepted.is c.read-got.ensures.0) (subst (λ z. Few c.args.kinds.now (place z)) c.in-Accepted.is c.read-got.ensures.1)), c.if-out_kinds-out_texts.false)
 
 pub returns : goal.returns
 returns c = (c.walks.ensures.0 c.args.kinds.now c.args.texts.now c.args.nodes.now (subst (λ z. Reads c.args.kinds.now c.args.texts.now c.args.nodes.now (number z) (place z) c.read-got.new.nodes) c.in-Accepted.is c.read-got.ensures.0), c.walks.ensures.1)

@@ -1,7 +1,7 @@
 use Rattle.kinds.proofs.StrengthTable.{looked_up}
 use Rattle.writer.proofs.Said.{binding_words, binding_kind}
 use Rattle.kinds.proofs.Small.{strength_small}
-use mathlib.Core.Path.{refl, ◌∙◌}
+use mathlib.Core.Path.{◌∙◌}
 use native.Mathlib.Omega.{arith}
 use Rattle.writer.proofs.lent.Pages.binding.Goals as goal
 

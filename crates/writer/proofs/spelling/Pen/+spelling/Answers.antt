@@ -3,12 +3,12 @@
 use Rattle.writer.proofs.Leaves.{detail_of, code_of, backs_most, code_at_lem, children_at_lem, before_most}
 use Rattle.writer.proofs.Said.{expr_term, is_absent, is_there, part_join, more_most}
 use Rattle.writer.specs.Pages.{nodes_of}
-use Rattle.writer.proofs.Moves.{any_terms, args_star, args_list, coded, bounds_by, perhaps_terms, perhaps_none, perhaps_some, call_name_lem, call_said, case_said, cast_first, cast_type, cast_said, part_there, part_on, constraint_on, constraint_none, strength_at, group_perhaps, inner_there, inner_query, inner_terms, inner_q, inner_t, part_src, part_said, on_said, using_said, on_none, in_parens, in_query, operand_code, operand_leaf, names_row, names_said, parens_said, sub_said, operand_prefix, order_perhaps, trails_binary, trails_between, trails_in, in_given, list_terms, list_toks, in_list}
+use Rattle.writer.proofs.Moves.{any_terms, args_star, args_list, coded, bounds_by, perhaps_none, perhaps_some, call_name_lem, call_said, case_said, cast_first, cast_type, cast_said, part_there, part_on, constraint_on, constraint_none, strength_at, group_perhaps, inner_there, inner_terms, inner_t, part_src, part_said, on_said, using_said, on_none, in_parens, in_query, operand_code, operand_leaf, names_row, names_said, parens_said, sub_said, operand_prefix, order_perhaps, trails_binary, trails_between, trails_in, in_given, list_terms, list_toks, in_list}
 use Rattle.scribe.proofs.Kids.{known, Maybe, may_there}
-use Rattle.scribe.proofs.Parts.{Terms, terms_toks, Term, leads_of, Perhaps, may_toks, Inside, limit_toks, tail_toks}
+use Rattle.scribe.proofs.Parts.{Terms, terms_toks, Term, Perhaps, may_toks, Inside, limit_toks, tail_toks}
 use Rattle.kinds.specs.Kinds.{DISTINCT, HAVING, SELECT}
 use Rattle.grammar.specs.Reading.{choose}
-use Rattle.grammar.specs.Writing.{tok, within, at, joined}
+use Rattle.grammar.specs.Writing.{tok, within, at}
 use mathlib.Core.Path.{sym, ap, ◌∙◌, subst⁻¹, refl, ap₂}
 use mathlib.Core.List.{[], ◌∷◌, ◌++◌}
 use Prim.Native.Nat.{◌-◌, ◌+◌, ◌*◌}

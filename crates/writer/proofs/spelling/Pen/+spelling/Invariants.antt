@@ -1,18 +1,16 @@
 -- Measures: the record, and a rank. Invariants: the bounds, and the walk so far: what was written, and what is yet to be.
 -- Assumes nothing.
 use Rattle.writer.specs.Pages.{rank}
-use Rattle.writer.specs.Pages.{nodes_of, lane_in}
-use Rattle.scribe.proofs.Parts.{Terms, terms_toks, Term, Along, Yet, Many, Coded, whens_toks}
+use Rattle.writer.specs.Pages.{nodes_of}
+use Rattle.scribe.proofs.Parts.{Terms, terms_toks, Term, Many, Coded, whens_toks}
 use Rattle.kinds.specs.Kinds.{COMMA}
 use Rattle.grammar.specs.Writing.{tok, at, joined, parted, rows}
-use mathlib.Core.Path.{◌≡◌}
 use Rattle.scribe.proofs.Clauses.{children_at}
 use Prim.Native.Nat.{◌-◌, ◌*◌, ◌+◌, ◌≤◌, ◌<◌}
 use Rattle.scribe.proofs.Lists.{case_toks}
 use Rattle.shapes.specs.Shape.{an_expr, a_from, list_of}
 use Rattle.scribe.proofs.Whole.{piece_at, Whole}
 use Rattle.scribe.proofs.Turns.{FromRest, CaseRest}
-use lib.ListN.{length}
 use Rattle.canon.proofs.Folds.{P}
 use Rattle.grammar.specs.NodeNames.{node_values, node_case}
 use Rattle.writer.proofs.Loops.{Left, Going}
