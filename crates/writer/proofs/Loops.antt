@@ -1,8 +1,9 @@
 -- The turns of the pen's loops (scribe/proofs/Turns.antt), by what the pen wrote in them. Assumes nothing.
-use mathlib.Core.Bool.{Bool, false}
+use mathlib.Core.Bool.{Bool, true, false}
 use mathlib.Core.List.{List, [], ◌∷◌}
 use mathlib.Core.Path.{◌≡◌, refl, sym, ap, ◌∙◌}
 use Prim.Native.Nat.{ℕ, ◌+◌, ◌-◌, ◌*◌, ◌/◌, ◌<◌, ◌≤◌}
+use mir.Val.{bool_byte}
 use lib.Dec.{ltb}
 use native.Mathlib.Omega.{arith}
 use Rattle.theory.specs.Trees.{Tok}
@@ -90,8 +91,17 @@ pub record Turned (pages : Pages) (p q : Pen) (i pairs : ℕ) (ts : List Tok) : 
 pub sets_out : {pages : Pages} {p : Pen} {i s : ℕ} (t : Term (nodes_of pages) i) → Going pages p p i s 0 (at s (piece_at t.whole))
 sets_out t = record { same = refl; along = along_start t }
 
-pub turned : {pages : Pages} {p q r : Pen} {i s pairs i' k pairs' : ℕ} {ts : List Tok} → Going pages p q i s pairs ts → Bared pages i i' → ((t : Term (nodes_of pages) i') → k ≡ node_str t.whole.code t.whole.detail) → Wrote pages q r (choose (ltb k s) (tok RP ∷ []) []) → pairs' ≡ choose (ltb k s) (pairs + 1) pairs → Turned pages p r i' pairs' ts
-turned g b f w e = record { same = w.same ∙ g.same; bare = along_turn g.along b.told f w.puts e }
+one_more : (b : Bool) (n : ℕ) {x : ℕ} → x ≡ bool_byte b → n + x ≡ choose b (n + 1) n
+unfolding choose
+one_more true n e = ap (λ z. n + z) e
+one_more false n e = ap (λ z. n + z) e ∙ (let k : n + 0 ≡ n = omega arith in k)
+
+pub one_more_most : (b : Bool) {x : ℕ} → x ≡ bool_byte b → x ≤ 1
+one_more_most true e = omega (arith, e)
+one_more_most false e = omega (arith, e)
+
+pub turned : {pages : Pages} {p q r : Pen} {i s pairs i' k x : ℕ} {ts : List Tok} → Going pages p q i s pairs ts → Bared pages i i' → ((t : Term (nodes_of pages) i') → k ≡ node_str t.whole.code t.whole.detail) → Wrote pages q r (choose (ltb k s) (tok RP ∷ []) []) → x ≡ bool_byte (ltb k s) → Turned pages p r i' (pairs + x) ts
+turned {s = s} {pairs} {k = k} g b f w e = record { same = w.same ∙ g.same; bare = along_turn g.along b.told f w.puts (one_more (ltb k s) pairs e) }
 
 module _ {pages : Pages} {p q : Pen} {i pairs : ℕ} {ts : List Tok} (b : Turned pages p q i pairs ts) where
   -- the first of all, and the LP before it

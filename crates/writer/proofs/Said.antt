@@ -331,11 +331,6 @@ pub opens_next : (n : ℕ) → opens (n + 1) [] ≡ tok LP ∷ opens n []
 unfolding opens
 opens_next n = ap (λ z. opens z []) (let e : n + 1 ≡ suc n = omega arith in e)
 
-pub more_most : (b : Bool) (n : ℕ) {r : ℕ} → r ≡ choose b (n + 1) n → r ≤ n + 1
-unfolding choose
-more_most true n e = omega (arith, e)
-more_most false n e = omega (arith, e)
-
 -- ── where no expression comes after the first child ──
 module _ {pages : Pages} {p q : Pen} {i c : ℕ} where
   pub closes_null : {d : ℕ} → c ≡ node_null_test → Field 1 pages i d → Wrote pages p q (tok d ∷ []) → Closes c pages p q i

@@ -72,13 +72,6 @@ fn leads(code: u32) -> bool
     )
 }
 
-fn one_more(n: u32, said: bool) -> u32
-    requires { n < 4294967295 }
-    ensures { result ≡ choose said (n + 1) n }
-{
-    if said { n + 1 } else { n }
-}
-
 impl Pen<'_> {
     // ---- tokens
 
@@ -141,7 +134,8 @@ impl Pen<'_> {
         }
     }
 
-    // The names that a node has for children.
+    // The names that a node has for children. This, `list`, `values` and `from` are one loop with another body, and stay four: through
+    // a trait's method `rt` covers no cycle of calls, and a closure in the cycle wants clauses of its own, longer than the loop.
     fn names(&mut self, pages: &Pages, i: u32, separator: u32)
         ensures { Writ (row_toks a_name (tok separator)) pages.now self.old self.new i }
     {
@@ -191,9 +185,10 @@ impl Pen<'_> {
             i = pages.bare(i);
             let c = pages.code(i);
             let k = pages.strength(c, pages.detail(i));
+            // Told by a call and a sum, not an `if`: each later need of the turn would be shown for both ways.
             let loose = k < s;
             self.word_if(pages, RP, loose);
-            pairs = one_more(pairs, loose);
+            pairs += u32::from(loose);
             if !leads(c) {
                 self.operand(pages, i, c);
                 self.opened(pages, pairs);

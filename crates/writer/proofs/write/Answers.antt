@@ -13,11 +13,5 @@ returns-then-out_kinds-out_texts c = (writes_unequal c.if-out_kinds-out_texts.tr
 pub returns-in_default : goal.returns-in_default
 returns-in_default c = (writes_refused c.if-out_kinds-out_texts.false c.read-got.ensures.0 (subst⁻¹ (λ z. 0 < number z) c.in_default.is (subst Plain c.in_default.is c.read-got.ensures.2)), c.read-got.ensures.2)
 
-pub overflow_cast-records : goal.overflow_cast-records
-overflow_cast-records c = let k = (few_records (subst (λ z. Reads c.args.kinds.now c.args.texts.now c.args.nodes.now (number z) (place z) c.read-got.new.nodes) c.in-Accepted.is c.read-got.ensures.0) (subst (λ z. Few c.args.kinds.now (place z)) c.in-Accepted.is c.read-got.ensures.1)) in omega (arith, k)
-
 pub walks-requires : goal.walks-requires
 walks-requires c = (whole_read (subst (λ z. Reads c.args.kinds.now c.args.texts.now c.args.nodes.now (number z) (place z) c.read-got.new.nodes) c.in-Accepted.is c.read-got.ensures.0), (few_records (subst (λ z. Reads c.args.kinds.now c.args.texts.now c.args.nodes.now (number z) (place z) c.read-got.new.nodes) c.in-Accepted.is c.read-got.ensures.0) (subst (λ z. Few c.args.kinds.now (place z)) c.in-Accepted.is c.read-got.ensures.1)), c.if-out_kinds-out_texts.false)
-
-pub returns : goal.returns
-returns c = (c.walks.ensures.0 c.args.kinds.now c.args.texts.now c.args.nodes.now (subst (λ z. Reads c.args.kinds.now c.args.texts.now c.args.nodes.now (number z) (place z) c.read-got.new.nodes) c.in-Accepted.is c.read-got.ensures.0), c.walks.ensures.1)

@@ -7,9 +7,6 @@ use Rattle.writer.proofs.lent.Pages.bare.Goals as goal
 pub loop-i-init : goal.loop-i-init
 loop-i-init c = (omega arith, λ t. (t, refl))
 
-pub loop-i-smaller : goal.loop-i-smaller
-loop-i-smaller c = let e = c.last-i.ensures in let h = c.code.ensures.some in let k = c.loop-i-test.true in let g : 0 < c.loop-i.i = h (omega (arith, k)) in omega (arith, e, g)
-
 pub loop-i-preserved : goal.loop-i-preserved
 loop-i-preserved c = bare_on c.loop-i.invariant c.code.ensures c.loop-i-test.true c.children.ensures c.if-children-eq1.true c.last-i.ensures
 

@@ -1,7 +1,7 @@
 -- The writer's functions that call each other, one cycle: each writes the tokens of what it is given (scribe/proofs/Parts.antt), made from
 -- its callees' by proofs/Moves.antt. Function by function; a goal that has no answer here the check proves by itself. Assumes nothing.
 use Rattle.writer.proofs.Leaves.{detail_of, code_of, backs_most, code_at_lem, children_at_lem, before_most}
-use Rattle.writer.proofs.Said.{expr_term, is_absent, is_there, part_join, more_most}
+use Rattle.writer.proofs.Said.{expr_term, is_absent, is_there, part_join}
 use Rattle.writer.specs.Pages.{nodes_of}
 use Rattle.writer.proofs.Moves.{any_terms, args_star, args_list, coded, bounds_by, perhaps_none, perhaps_some, call_name_lem, call_said, case_said, cast_first, cast_type, cast_said, part_there, part_on, constraint_on, constraint_none, strength_at, group_perhaps, inner_there, inner_terms, inner_t, part_src, part_said, on_said, using_said, on_none, in_parens, in_query, operand_code, operand_leaf, names_row, names_said, parens_said, sub_said, operand_prefix, order_perhaps, trails_binary, trails_between, trails_in, in_given, list_terms, list_toks, in_list}
 use Rattle.scribe.proofs.Kids.{known, Maybe, may_there}
@@ -23,7 +23,7 @@ use Rattle.scribe.proofs.Whole.{piece_at, Whole, before_of}
 use Rattle.scribe.proofs.Clauses.{may_here, clause_gone, clause_here, no_from, some_from, may_gone}
 use Rattle.scribe.proofs.Turns.{bare_operand, from_yet, from_part, row_yet, many_last, rows_yet, case_yet, case_result, case_condition, case_base_at}
 use Rattle.scribe.proofs.Clauses.{children_at}
-use Rattle.writer.proofs.Loops.{left, member_then, member_last, members_done, row_then, row_last, all_rows, part_more, all_parts, pairs_left, no_pairs, pair_more, all_pairs, sets_out, turned, arrives, goes_on, led_by}
+use Rattle.writer.proofs.Loops.{left, member_then, member_last, members_done, row_then, row_last, all_rows, part_more, all_parts, pairs_left, no_pairs, pair_more, all_pairs, sets_out, one_more_most, turned, arrives, goes_on, led_by}
 use Rattle.kinds.specs.Strength.{prefix_of}
 use Rattle.writer.proofs.Pens.{◌after◌, wrote_as, nothing_wrote, writ_at}
 use Rattle.writer.proofs.spelling.Pen.+spelling.Goals as goal
@@ -117,23 +117,23 @@ constraint-returns-else-code-eq-JOIN t c = constraint_none c.code.ensures c.if-c
 pub ex-loop-self-init : goal.ex-loop-self-init
 ex-loop-self-init t c = (omega arith, λ t. sets_out t)
 
-pub ex-one_more-pairs-requires : goal.ex-one_more-pairs-requires
-ex-one_more-pairs-requires t c = omega (arith, c.loop-self.invariant.0, (known (c.loop-self.invariant.1 c.requires).along.it.whole).there, c.ranges.end)
+pub ex-overflow_add-pairs : goal.ex-overflow_add-pairs
+ex-overflow_add-pairs t c = omega (arith, c.loop-self.invariant.0, one_more_most (ltb c.strength-k.result c.loop-self.s) c.from-pairs.ensures, (known (c.loop-self.invariant.1 c.requires).along.it.whole).there, c.ranges.end)
 
 pub ex-operand-requires : goal.ex-operand-requires
-ex-operand-requires t c = let b = turned (c.loop-self.invariant.1 c.requires) c.bare-i.ensures (strength_at c.strength-k.ensures.0 c.code-c.ensures c.detail.ensures) c.word_if.ensures c.one_more-pairs.ensures in (omega (arith, c.loop-self.invariant.0, c.bare-i.ensures.most), (bare_operand b.bare (led_by b.bare.it.whole c.code-c.ensures c.leads.ensures c.if-not-leads.true), code_at_lem c.code-c.ensures (known b.bare.it.whole).there))
+ex-operand-requires t c = let b = turned (c.loop-self.invariant.1 c.requires) c.bare-i.ensures (strength_at c.strength-k.ensures.0 c.code-c.ensures c.detail.ensures) c.word_if.ensures c.from-pairs.ensures in (omega (arith, c.loop-self.invariant.0, c.bare-i.ensures.most), (bare_operand b.bare (led_by b.bare.it.whole c.code-c.ensures c.leads.ensures c.if-not-leads.true), code_at_lem c.code-c.ensures (known b.bare.it.whole).there))
 
 pub ex-returns-then-not-leads : goal.ex-returns-then-not-leads
-ex-returns-then-not-leads t c = record { told = λ t. let b = turned (c.loop-self.invariant.1 t) c.bare-i.ensures (strength_at c.strength-k.ensures.0 c.code-c.ensures c.detail.ensures) c.word_if.ensures c.one_more-pairs.ensures in arrives b c.operand.ensures.told (led_by b.bare.it.whole c.code-c.ensures c.leads.ensures c.if-not-leads.true) c.opened.ensures }
+ex-returns-then-not-leads t c = record { told = λ t. let b = turned (c.loop-self.invariant.1 t) c.bare-i.ensures (strength_at c.strength-k.ensures.0 c.code-c.ensures c.detail.ensures) c.word_if.ensures c.from-pairs.ensures in arrives b c.operand.ensures.told (led_by b.bare.it.whole c.code-c.ensures c.leads.ensures c.if-not-leads.true) c.opened.ensures }
 
 pub ex-rest-requires : goal.ex-rest-requires
-ex-rest-requires t c = let b = turned (c.loop-self.invariant.1 c.requires) c.bare-i.ensures (strength_at c.strength-k.ensures.0 c.code-c.ensures c.detail.ensures) c.word_if.ensures c.one_more-pairs.ensures in (omega (arith, c.loop-self.invariant.0, c.bare-i.ensures.most), (b.bare.it, c.strength-k.ensures.1))
+ex-rest-requires t c = let b = turned (c.loop-self.invariant.1 c.requires) c.bare-i.ensures (strength_at c.strength-k.ensures.0 c.code-c.ensures c.detail.ensures) c.word_if.ensures c.from-pairs.ensures in (omega (arith, c.loop-self.invariant.0, c.bare-i.ensures.most), (b.bare.it, c.strength-k.ensures.1))
 
 pub ex-loop-self-smaller : goal.ex-loop-self-smaller
-ex-loop-self-smaller t c = let b = turned (c.loop-self.invariant.1 c.requires) c.bare-i.ensures (strength_at c.strength-k.ensures.0 c.code-c.ensures c.detail.ensures) c.word_if.ensures c.one_more-pairs.ensures in omega (arith, c.first-i.ensures.most, c.bare-i.ensures.most, (known b.bare.it.whole).there)
+ex-loop-self-smaller t c = let b = turned (c.loop-self.invariant.1 c.requires) c.bare-i.ensures (strength_at c.strength-k.ensures.0 c.code-c.ensures c.detail.ensures) c.word_if.ensures c.from-pairs.ensures in omega (arith, c.first-i.ensures.most, c.bare-i.ensures.most, (known b.bare.it.whole).there)
 
 pub ex-loop-self-preserved : goal.ex-loop-self-preserved
-ex-loop-self-preserved t c = (let b = turned (c.loop-self.invariant.1 c.requires) c.bare-i.ensures (strength_at c.strength-k.ensures.0 c.code-c.ensures c.detail.ensures) c.word_if.ensures c.one_more-pairs.ensures in omega (arith, c.loop-self.invariant.0, more_most (ltb c.strength-k.result c.loop-self.s) c.loop-self.pairs c.one_more-pairs.ensures, c.first-i.ensures.most, c.bare-i.ensures.most, (known b.bare.it.whole).there), λ t. let b = turned (c.loop-self.invariant.1 t) c.bare-i.ensures (strength_at c.strength-k.ensures.0 c.code-c.ensures c.detail.ensures) c.word_if.ensures c.one_more-pairs.ensures in goes_on b (c.rest.ensures.told b.bare.it (led_by b.bare.it.whole c.code-c.ensures c.leads.ensures c.if-not-leads.false) (strength_at c.strength-k.ensures.0 c.code-c.ensures c.detail.ensures b.bare.it)) (strength_at c.strength-k.ensures.0 c.code-c.ensures c.detail.ensures b.bare.it) c.first-i.ensures)
+ex-loop-self-preserved t c = (let b = turned (c.loop-self.invariant.1 c.requires) c.bare-i.ensures (strength_at c.strength-k.ensures.0 c.code-c.ensures c.detail.ensures) c.word_if.ensures c.from-pairs.ensures in omega (arith, c.loop-self.invariant.0, one_more_most (ltb c.strength-k.result c.loop-self.s) c.from-pairs.ensures, c.first-i.ensures.most, c.bare-i.ensures.most, (known b.bare.it.whole).there), λ t. let b = turned (c.loop-self.invariant.1 t) c.bare-i.ensures (strength_at c.strength-k.ensures.0 c.code-c.ensures c.detail.ensures) c.word_if.ensures c.from-pairs.ensures in goes_on b (c.rest.ensures.told b.bare.it (led_by b.bare.it.whole c.code-c.ensures c.leads.ensures c.if-not-leads.false) (strength_at c.strength-k.ensures.0 c.code-c.ensures c.detail.ensures b.bare.it)) (strength_at c.strength-k.ensures.0 c.code-c.ensures c.detail.ensures b.bare.it) c.first-i.ensures)
 
 -- ── from ──
 pub from-returns-then-parts-eq0 : goal.from-returns-then-parts-eq0
