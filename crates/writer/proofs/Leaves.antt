@@ -1,10 +1,9 @@
 -- What the reads of the table and the writing of one token come to. Assumes nothing.
 use mathlib.Core.List.{List, [], ◌∷◌}
-use mathlib.Core.Path.{◌≡◌, refl, sym, ap, ap₂, ◌∙◌}
+use mathlib.Core.Path.{◌≡◌, refl, sym, ap, ◌∙◌, subst⁻¹}
 use Prim.Native.Nat.{ℕ, zero, suc, ◌+◌, ◌-◌, ◌*◌, ◌<◌, ◌≤◌}
 use lib.ListN.{length, get_or, set}
 use native.Mathlib.Omega.{arith}
-use Rattle.kinds.proofs.StrengthTable.{past}
 use Rattle.grammar.specs.Sizes.{WIDTH}
 use Rattle.grammar.specs.Reading.{choose}
 use Rattle.grammar.specs.Nodes.{count}
@@ -22,19 +21,6 @@ use Rattle.writer.specs.declared.lent.Numbers.TheVariants.{Kinds, Texts}
 use Rattle.writer.specs.Pages.{nodes_of, lane_of_numbers, Field}
 
 -- ── a number of a record ──
-pub field_past : {pages : Pages} {i f : ℕ} (t : List ℕ) → t ≡ nodes_of pages → length t ≤ (i - 1) * 4 + f → Field f pages i 0
-field_past {pages} {i} {f} t e h =
-    record {
-      some = λ z. absurd (omega (arith, z));
-      is = λ z. sym (ap (λ l. get_or l (WIDTH * (i - 1) + f) 0) (sym e) ∙ past t (WIDTH * (i - 1) + f) (omega (arith, h)));
-    }
-
-pub field_there : {pages : Pages} {i f : ℕ} (t : List ℕ) (at : ℕ) → t ≡ nodes_of pages → (i ≡ 0 → ⊥) → at ≡ (i - 1) * 4 + f → Field f pages i (get_or t at 0)
-field_there {i = i} {f = f} t at e h p = record { some = λ z. omega (arith, h); is = λ z. ap₂ (λ l n. get_or l n 0) e (p ∙ place) }
-  where
-    place : (i - 1) * 4 + f ≡ WIDTH * (i - 1) + f
-    place = omega arith
-
 module _ {pages : Pages} {i r : ℕ} where
   pub code_at_lem : Field 0 pages i r → 0 < i → r ≡ code_at (nodes_of pages) i
   code_at_lem F h = F.is h ∙ ap (λ z. get_or (nodes_of pages) z 0) (let e : WIDTH * (i - 1) + 0 ≡ WIDTH * (i - 1) = omega arith in e)
@@ -61,9 +47,6 @@ before_is {pages} {i} {z} F = go i F
     go zero F = omega arith
     go (suc i) F = ap (λ n. suc i - n) (F.is (omega arith))
 
-pub before_none : {pages : Pages} {i z : ℕ} → Field 3 pages i z → i < z → 0 ≡ before_of (nodes_of pages) i
-before_none F h = let e = before_is F in omega (arith, e, h)
-
 pub before_most : (N : List ℕ) (j : ℕ) → before_of N j ≤ j
 unfolding before_of
 before_most N j = omega arith
@@ -72,6 +55,17 @@ pub backs_most : (N : List ℕ) (n j : ℕ) → backs N n j ≤ j
 unfolding backs
 backs_most N zero j = omega arith
 backs_most N (suc n) j = let a = backs_most N n (before_of N j) in let b = before_most N j in omega (arith, a, b)
+
+-- .. stands below
+pub before_below : (N : List ℕ) (j : ℕ) {i j' : ℕ} → j' ≡ before_of N j → j < i → j' < i
+before_below N j e h = let m = before_most N j in omega (arith, e, h, m)
+
+pub child_below : (N : List ℕ) (n i : ℕ) {j : ℕ} → 0 < i → j ≡ backs N n (i - 1) → j < i
+child_below N n i h e = let m = backs_most N n (i - 1) in omega (arith, h, e, m)
+
+-- what ends at a place, where the place is known otherwise
+pub moved : (X : List ℕ → ℕ → Type 0) {N : List ℕ} {i j : ℕ} → i ≡ j → X N j → X N i
+moved X {N} e x = subst⁻¹ (X N) e x
 
 -- of the steps back that are left after k of n
 pub backs_turn : (N : List ℕ) (n k j : ℕ) {j' : ℕ} → k < n → j' ≡ before_of N j → backs N (n - (k + 1)) j' ≡ backs N (n - k) j

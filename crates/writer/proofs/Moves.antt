@@ -94,13 +94,6 @@ inner_terms (a_query_lem w) h = absurd (h ((known w.whole).code ∙ w.is))
 inner_terms (members t h) g = t
 
 module _ {pages : Pages} {p q : Pen} {i : ℕ} where
-  pub inner_q : code_at (nodes_of pages) i ≡ node_query → Writ (coded_toks node_query) pages p q i → Writ inner_toks pages p q i
-  inner_q e s = record { told = λ x. go x }
-    where
-      go : (x : Inside (nodes_of pages) i) → Wrote pages p q (inner_toks (nodes_of pages) i x)
-      go (a_query_lem w) = s.told w
-      go (members t h) = absurd (h e)
-
   pub inner_t : (code_at (nodes_of pages) i ≡ node_query → ⊥) → Writ terms_toks pages p q i → Writ inner_toks pages p q i
   inner_t h s = record { told = λ x. go x }
     where

@@ -1,5 +1,5 @@
 -- What each of the writer's functions writes, by the tests that it makes. Assumes nothing.
-use mathlib.Core.Bool.{Bool, true, false, cond}
+use mathlib.Core.Bool.{true, false}
 use mathlib.Core.List.{List, [], ◌∷◌, ◌++◌, append_assoc}
 use mathlib.Core.Logic.{◌⊎◌, inl, inr, ⊎_elim}
 use mathlib.Core.Path.{◌≡◌, refl, sym, ap, ap₂, ◌∙◌, subst⁻¹}
@@ -208,7 +208,7 @@ unfolding join_words
 join_none e = rw e refl
 
 pub join_some : {w : ℕ} → (w ≡ 0 → ⊥) → join_words (present w) ≡ toktext JOIN_KW w ∷ []
-unfolding join_words cond
+unfolding join_words
 join_some {w} h = rw (ne_eqb w 0 h) refl
 
 join_words_on : (xs ys : List ℕ) → join_words (xs ++ ys) ≡ join_words xs ++ join_words ys

@@ -65,12 +65,7 @@ impl Pages<'_> {
         if i == 0 {
             return 0;
         }
-        let nodes = self.nodes;
-        let at = (i - 1) as usize * WIDTH + f;
-        if at >= nodes.len() {
-            return 0;
-        }
-        nodes[at]
+        *self.nodes.get((i - 1) as usize * WIDTH + f).unwrap_or(&0)
     }
 
     pub fn code(&self, i: u32) -> u32
@@ -136,9 +131,10 @@ impl Pages<'_> {
         ensures { (result ≡ binary_str detail) × (result ≤ 12) }
     {
         if detail >= node::WORDS {
-            return TEST;
+            TEST
+        } else {
+            kinds::strength(self.strengths, detail)
         }
-        kinds::strength(self.strengths, detail)
     }
 
     // How tightly a node holds; 0 for what is no expression.
@@ -160,8 +156,9 @@ impl Pages<'_> {
         ensures { Taken self.now i result }
     {
         if self.code(i) == node::JOIN {
-            return self.child(i, 1);
+            self.child(i, 1)
+        } else {
+            i
         }
-        i
     }
 }

@@ -5,7 +5,7 @@
 mod lent;
 mod spelling;
 
-ghost use Rattle.std.specs.Prelude.{◌≡◌, ◌<◌, ◌≤◌, length};
+ghost use Rattle.std.specs.Prelude.{◌≡◌, ◌≤◌, length};
 ghost use Rattle.grammar.specs.NodeNames.{node_query};
 ghost use Rattle.grammar.specs.Promise.{Writes};
 ghost use Rattle.shapes.specs.Shape.{a_query};

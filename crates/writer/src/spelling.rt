@@ -1,23 +1,18 @@
 // The pen and what it writes of each node. A node is known by where it ends: the record of the node that ends at i is
 // number i - 1.
 
-ghost use Rattle.std.specs.Prelude.{◌≡◌, [], ◌∷◌, ◌++◌, ◌+◌, ◌-◌, ◌%◌, ◌/◌, ◌<◌, ◌≤◌, length};
-ghost use Rattle.grammar.specs.Sizes.{WIDTH};
+ghost use Rattle.std.specs.Prelude.{◌≡◌, [], ◌∷◌, ◌++◌, ◌+◌, ◌≤◌};
 ghost use Rattle.grammar.specs.NodeNames.{node_query, node_select, node_values, node_table, node_call, node_case, node_cast, node_prefix, node_between};
 ghost use Rattle.grammar.specs.Reading.{choose};
-ghost use Rattle.grammar.specs.Writing.{tok, toktext, node_str, binary_str, binary_toks, not_if, join_of, join_words};
-ghost use Rattle.grammar.specs.Promise.{Writes};
+ghost use Rattle.grammar.specs.Writing.{tok, toktext, binary_toks, not_if, join_of, join_words};
 ghost use Rattle.words.specs.Fewest.{present};
-ghost use Rattle.kinds.specs.Strength.{strength_table};
-ghost use Rattle.shapes.specs.Shape.{a_query, a_body, a_from, a_source, a_constraint, an_expr, a_name, Joining};
-ghost use Rattle.scribe.proofs.Whole.{Whole, before_of};
+ghost use Rattle.shapes.specs.Shape.{a_body, a_from, a_source, a_constraint, an_expr, a_name, Joining};
+ghost use Rattle.scribe.proofs.Whole.{Whole};
 ghost use Rattle.scribe.proofs.Kids.{Maybe};
 ghost use Rattle.scribe.proofs.Spelt.{literal_kind, name_kind};
 ghost use Rattle.scribe.proofs.Clauses.{code_at};
-ghost use Rattle.scribe.proofs.Leading.{backs};
-ghost use Rattle.scribe.proofs.Parts.{Spells, Coded, Term, Operand, Terms, Inside, Perhaps, Part, leads_of, node_toks, coded_toks, term_toks, operand_toks, may_toks, bare_toks, row_toks, terms_toks, inside_toks, inner_toks, perhaps_toks, limit_toks, group_toks, tail_toks, whens_toks, args_toks, part_toks, constraint_toks, join_toks, leaf_toks, opens, alias_toks, schema_toks, titled_toks, index_toks, using_toks, selected_toks, nulls_toks, way_toks};
-ghost use Rattle.reader.specs.Answers.{number, place, Plain};
-ghost use Rattle.writer.specs.Pages.{nodes_of, Field, Wrote, Writ, Trails, Closes, Bounds, MOST, Walks};
+ghost use Rattle.scribe.proofs.Parts.{Coded, Term, Operand, Terms, Inside, Perhaps, Part, leads_of, node_toks, coded_toks, term_toks, operand_toks, may_toks, bare_toks, row_toks, terms_toks, inside_toks, inner_toks, perhaps_toks, limit_toks, group_toks, tail_toks, whens_toks, args_toks, part_toks, constraint_toks, join_toks, leaf_toks, opens, alias_toks, schema_toks, titled_toks, index_toks, using_toks, selected_toks, nulls_toks, way_toks};
+ghost use Rattle.writer.specs.Pages.{nodes_of, Wrote, Writ, Trails, Closes, Bounds};
 
 use crate::lent::{ANY, Pages, last};
 use kinds::{
@@ -357,10 +352,10 @@ impl Pen<'_> {
         let d = pages.detail(i);
         if d == node::STAR_CALL {
             self.word(pages, STAR);
-            return;
+        } else {
+            self.list(pages, last(i));
+            self.word_if(pages, DISTINCT, d == node::DISTINCT);
         }
-        self.list(pages, last(i));
-        self.word_if(pages, DISTINCT, d == node::DISTINCT);
     }
 
     #[cycle(spelling)]
@@ -652,10 +647,10 @@ impl Pen<'_> {
     {
         if pages.code(i) == node::TABLE {
             self.table(pages, i);
-            return;
+        } else {
+            self.alias(pages, last(i));
+            self.within(pages, pages.child(i, 1));
         }
-        self.alias(pages, last(i));
-        self.within(pages, pages.child(i, 1));
     }
 
     // [ schema DOT ] name [ AS alias ] [ INDEXED BY index, or NOT INDEXED ]

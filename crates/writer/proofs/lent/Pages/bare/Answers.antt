@@ -1,6 +1,5 @@
 use Rattle.writer.proofs.Said.{bare_on, bare_many, bare_other}
 use mathlib.Core.Path.{refl}
-use Prim.Native.Nat.{◌<◌}
 use native.Mathlib.Omega.{arith}
 use Rattle.writer.proofs.lent.Pages.bare.Goals as goal
 

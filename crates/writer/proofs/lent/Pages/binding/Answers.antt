@@ -8,5 +8,5 @@ use Rattle.writer.proofs.lent.Pages.binding.Goals as goal
 pub returns-then-detail-ge-WORDS : goal.returns-then-detail-ge-WORDS
 returns-then-detail-ge-WORDS c = (binding_words _ c.if-detail-ge-WORDS.true, omega arith)
 
-pub returns : goal.returns
-returns c = let e = looked_up _ c.args.self.now.ruled c.strength.ensures in (e ∙ binding_kind _ c.if-detail-ge-WORDS.false, let s = strength_small c.args.detail in omega (arith, e, s))
+pub returns-else-detail-ge-WORDS : goal.returns-else-detail-ge-WORDS
+returns-else-detail-ge-WORDS c = let e = looked_up _ c.args.self.now.ruled c.strength.ensures in (e ∙ binding_kind _ c.if-detail-ge-WORDS.false, let s = strength_small c.args.detail in omega (arith, e, s))
