@@ -65,7 +65,13 @@ impl Pages<'_> {
         if i == 0 {
             return 0;
         }
-        *self.nodes.get((i - 1) as usize * WIDTH + f).unwrap_or(&0)
+        // No `get` with `unwrap_or`: a token of a long command costs 431 instructions by it, and 404 so.
+        let at = (i - 1) as usize * WIDTH + f;
+        if at < self.nodes.len() {
+            self.nodes[at]
+        } else {
+            0
+        }
     }
 
     pub fn code(&self, i: u32) -> u32
