@@ -1,5 +1,5 @@
 // The pen and what it writes of each node. A node is known by where it ends: the record of the node that ends at i is
-// number i - 1.
+// number i - 1. Codes and details are numbers, not enums: they stand in the lent table, and are told apart by ranges.
 
 ghost use Rattle.std.specs.Prelude.{◌≡◌, [], ◌∷◌, ◌++◌, ◌+◌, ◌≤◌};
 ghost use Rattle.grammar.specs.NodeNames.{node_query, node_select, node_values, node_table, node_call, node_case, node_cast, node_prefix, node_between};
@@ -26,7 +26,8 @@ use kinds::{
 const BOUND: u32 = 5;
 
 // The list that is written, and where the tokens that stand in it begin: the next one is put before them, so a
-// node's tokens are written from its last to its first.
+// node's tokens are written from its last to its first. The pages are lent beside the pen: in it, each function would have
+// to promise that they are the same after.
 #[derive(Drop)]
 pub struct Pen<'a> {
     pub out: &'a mut [u32],
