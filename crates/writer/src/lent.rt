@@ -11,8 +11,8 @@ ghost use Rattle.scribe.proofs.Leading.{backs};
 use kinds::node;
 use reader::WIDTH;
 
-// Strengths, numbers since they are compared and one more is asked to the right of an operator: asked where all may stand; of IS NOT, IN, BETWEEN, LIKE_KW and the null tests; of COLLATE; of what
-// is no operator.
+// Strengths, numbers since they are compared and one more is asked to the right of an operator: asked where all
+// may stand; of IS NOT, IN, BETWEEN, LIKE_KW and the null tests; of COLLATE; of what is no operator.
 pub const ANY: u32 = 0;
 
 const TEST: u32 = 4;

@@ -130,8 +130,9 @@ impl Pen<'_> {
         }
     }
 
-    // The names that a node has for children. This, `list`, `values` and `from` are one loop with another body, and stay four: through
-    // a trait's method `rt` covers no cycle of calls, and a closure in the cycle wants clauses of its own, longer than the loop.
+    // The names that a node has for children. This, `list`, `values` and `from` are one loop with another body, and
+    // stay four: by a trait's method a cycle of calls is not covered, and a closure in the cycle wants clauses of its
+    // own, longer than the loop.
     fn names(&mut self, pages: &Pages, i: u32, separator: u32)
         ensures { Writ (row_toks a_name (tok separator)) pages.now self.old self.new i }
     {
