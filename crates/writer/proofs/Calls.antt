@@ -4,12 +4,9 @@ use mathlib.Core.Path.{◌≡◌, subst}
 use Prim.Native.Nat.{ℕ, ◌+◌, ◌-◌, ◌<◌, ◌≤◌}
 use lib.ListN.{length}
 use native.Mathlib.Omega.{arith}
-use Rattle.theory.specs.Trees.{Tok}
 use Rattle.grammar.specs.NodeNames.{node_query}
 use Rattle.grammar.specs.Promise.{Reads}
 use Rattle.shapes.specs.Shape.{a_query}
-use Rattle.scribe.proofs.Standing.{Puts}
-use Rattle.scribe.proofs.Tokens.{puts_text}
 use Rattle.scribe.proofs.Whole.{Whole, piece_at}
 use Rattle.scribe.proofs.Spelt.{query_is}
 use Rattle.scribe.proofs.Parts.{coded_toks, Spells}
@@ -35,11 +32,8 @@ module _ {N : List ℕ} {p : ℕ} (few : p ≤ MOST) where
     pub walks_short : {A B : List ℕ} → length A ≡ length B → length A < c → Walks N p A B 10 c A B
     walks_short same h K T M read = writes_short same read count_is h
 
-    pub walks_whole : {A B : List ℕ} → length A ≡ length B → c ≤ length A → {A' B' : List ℕ} {x y lane₂ lane₃ : ℕ} → lane₂ ≡ 0 → Spells (coded_toks node_query) N lane₂ A A' x c p → 0 < lane₃ → Spells (coded_toks node_query) N lane₃ B B' y c p → Walks N p A B 0 c A' B'
-    walks_whole {A} same h {A'} {x = x} z kinds t texts K T M read = writes_whole same read count_is h (λ w. kindly z (kinds.told (coded w (query_is w)))) (λ w. puts_text t (texts.told (coded w (query_is w))))
-      where
-        kindly : {l : ℕ} {ts : List Tok} → l ≡ 0 → Puts l A A' x c ts → Puts 0 A A' x c ts
-        kindly {ts = ts} e s = subst (λ n. Puts n A A' x c ts) e s
+    pub walks_whole : {A B : List ℕ} → length A ≡ length B → c ≤ length A → {A' B' : List ℕ} {x y : ℕ} → Spells (coded_toks node_query) N 0 A A' x c p → Spells (coded_toks node_query) N 1 B B' y c p → Walks N p A B 0 c A' B'
+    walks_whole same h kinds texts K T M read = writes_whole same read count_is h (λ w. kinds.told (coded w (query_is w))) (λ w. texts.told (coded w (query_is w)))
 
 -- what was written in a list, told of the same list
 pub spells_in : {N : List ℕ} {lane : ℕ} {A A₁ A' : List ℕ} {r to i : ℕ} → A₁ ≡ A → Spells (coded_toks node_query) N lane A₁ A' r to i → Spells (coded_toks node_query) N lane A A' r to i

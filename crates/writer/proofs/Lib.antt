@@ -1,4 +1,6 @@
 mod Leaves
+mod Pens
 mod Said
+mod Loops
 mod Moves
 mod Calls

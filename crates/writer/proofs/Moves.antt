@@ -14,18 +14,19 @@ use Rattle.grammar.specs.Reading.{choose}
 use Rattle.grammar.specs.Writing.{at, after as put_after, within, parted, grouped, binary_toks, binary_str, not_if, node_str, tok}
 use Rattle.canon.proofs.Folds.{P}
 use Rattle.shapes.specs.Shape.{Class, a_query, a_source, a_join, a_constraint, a_sort, an_expr, a_name, list_of, any_of, many_of, Shaped, shaped_more}
-use Rattle.scribe.proofs.Standing.{Puts}
-use Rattle.scribe.proofs.Tokens.{puts_as, ◌after◌}
 use Rattle.scribe.proofs.Whole.{Whole, piece_at, before_of}
 use Rattle.scribe.proofs.Kids.{known, kids_stand, Maybe, may_piece, may_there}
 use Rattle.scribe.proofs.Spelt.{binary_kids, between_kids, in_list_kids, in_query_kids, subquery_kids, subquery_spelt, exists_kids, exists_spelt, cast_kids, cast_spelt, on_kids, on_spelt, using_shape, using_spelt, join_kids, join_spelt, names_shape, names_spelt, list_spelt, call_kids, CallKids, call_args, call_star, call_args_spelt, call_star_spelt, parens_shape, parens_spelt, str_binary, at_zero, after_here, query_is, join_is, source_is, list_is, any_is, expr_range, column_range, sort_is}
 use Rattle.scribe.proofs.Lists.{case_toks, case_kids, case_spelt, case_ended}
 use Rattle.scribe.proofs.Clauses.{code_at, children_at, order_none, order_some, group_none, group_some, constraint_here, constraint_gone}
 use Rattle.scribe.proofs.Leading.{binary_led, between_led, in_list_led, in_query_led}
-use Rattle.scribe.proofs.Parts.{Coded, Term, is_term, Operand, Leaf, Row, Terms, Inside, a_query_lem, members, Perhaps, not_any, some_terms, Part, coded_toks, term_toks, operand_toks, may_toks, bare_toks, terms_toks, inner_toks, inside_toks, perhaps_toks, whens_toks, call_toks, args_toks, part_toks, constraint_toks, join_toks, source_of, using_toks, Spells, Tailed}
-use Rattle.writer.specs.Pages.{Lists, nodes_of, lane_in, Field, Trails, Bounds}
+use Rattle.scribe.proofs.Parts.{Coded, Term, is_term, Operand, Leaf, Row, Terms, Inside, a_query_lem, members, Perhaps, not_any, some_terms, Part, coded_toks, term_toks, operand_toks, may_toks, bare_toks, terms_toks, inner_toks, inside_toks, perhaps_toks, whens_toks, call_toks, args_toks, part_toks, constraint_toks, join_toks, source_of, using_toks}
+use Rattle.writer.specs.declared.lent.Pages.{Pages}
+use Rattle.writer.specs.declared.spelling.Pen.{Pen}
+use Rattle.writer.specs.Pages.{nodes_of, Field, Wrote, Writ, Trailed, Trails, Bounds}
+use Rattle.writer.proofs.Pens.{◌after◌, wrote_as, writ_at, trailed}
 use Rattle.writer.proofs.Leaves.{code_at_lem, code_of, detail_of, children_at_lem}
-use Rattle.writer.proofs.Said.{spell_at, expr_term, leads_within, by_term}
+use Rattle.writer.proofs.Said.{expr_term, leads_within, by_term}
 
 -- ── a node by its code ──
 abbrev pub coded : {C : Class} {N : List ℕ} {i k : ℕ} (w : Whole C N i) → w.code ≡ k → Coded k N i
@@ -36,7 +37,7 @@ pub code_is : {C : Class} {N : List ℕ} {i k : ℕ} (w : Whole C N i) → code_
 code_is w e = sym (known w).code ∙ e
 
 -- the strength of a term
-pub strength_at : {io : Lists} {i c d k : ℕ} → k ≡ node_str c d → Field 0 io i c → Field 1 io i d → (t : Term (nodes_of io) i) → k ≡ node_str t.whole.code t.whole.detail
+pub strength_at : {pages : Pages} {i c d k : ℕ} → k ≡ node_str c d → Field 0 pages i c → Field 1 pages i d → (t : Term (nodes_of pages) i) → k ≡ node_str t.whole.code t.whole.detail
 strength_at e F G t = e ∙ ap₂ node_str (code_of t.whole F) (detail_of t.whole G)
 
 -- ── rows ──
@@ -92,18 +93,11 @@ pub inner_terms : {N : List ℕ} {i : ℕ} → Inside N i → (code_at N i ≡ n
 inner_terms (a_query_lem w) h = absurd (h ((known w.whole).code ∙ w.is))
 inner_terms (members t h) g = t
 
-module _ {N : List ℕ} {lane : ℕ} {A A' : List ℕ} {r to i : ℕ} where
-  pub inner_q : code_at N i ≡ node_query → Spells (coded_toks node_query) N lane A A' r to i → Spells inner_toks N lane A A' r to i
-  inner_q e s = record { told = λ x. go x }
-    where
-      go : (x : Inside N i) → Puts lane A A' r to (inner_toks N i x)
-      go (a_query_lem w) = s.told w
-      go (members t h) = absurd (h e)
-
-  pub inner_t : (code_at N i ≡ node_query → ⊥) → Spells terms_toks N lane A A' r to i → Spells inner_toks N lane A A' r to i
+module _ {pages : Pages} {p q : Pen} {i : ℕ} where
+  pub inner_t : (code_at (nodes_of pages) i ≡ node_query → ⊥) → Writ terms_toks pages p q i → Writ inner_toks pages p q i
   inner_t h s = record { told = λ x. go x }
     where
-      go : (x : Inside N i) → Puts lane A A' r to (inner_toks N i x)
+      go : (x : Inside (nodes_of pages) i) → Wrote pages p q (inner_toks (nodes_of pages) i x)
       go (a_query_lem w) = absurd (h ((known w.whole).code ∙ w.is))
       go (members t g) = s.told t
 
@@ -128,23 +122,23 @@ module _ {N : List ℕ} {i : ℕ} where
   perhaps_there (not_any h e) = h
   perhaps_there (some_terms t h) = t.row.there
 
-  pub perhaps_terms : {io : Lists} {r : ℕ} → nodes_of io ≡ N → Field 2 io i r → Perhaps N i → (r ≡ 0 → ⊥) → Terms N i
+  pub perhaps_terms : {pages : Pages} {r : ℕ} → nodes_of pages ≡ N → Field 2 pages i r → Perhaps N i → (r ≡ 0 → ⊥) → Terms N i
   perhaps_terms e F (not_any h q) g = absurd (g (children_at_lem F h ∙ ap (λ z. children_at z i) e ∙ q))
   perhaps_terms e F (some_terms t h) g = t
 
-module _ {io : Lists} {A A' : List ℕ} {r to i n : ℕ} (k : ℕ) (F : Field 2 io i n) where
-  pub perhaps_none : n ≡ 0 → Puts (lane_in io) A A' r to [] → Spells (perhaps_toks k) (nodes_of io) (lane_in io) A A' r to i
-  perhaps_none e p = record { told = λ b. go b }
+module _ {pages : Pages} {p q : Pen} {i n : ℕ} (k : ℕ) (F : Field 2 pages i n) where
+  pub perhaps_none : n ≡ 0 → Wrote pages p q [] → Writ (perhaps_toks k) pages p q i
+  perhaps_none e s = record { told = λ b. go b }
     where
-      go : (b : Perhaps (nodes_of io) i) → Puts (lane_in io) A A' r to (perhaps_toks k (nodes_of io) i b)
-      go (not_any h q) = p
+      go : (b : Perhaps (nodes_of pages) i) → Wrote pages p q (perhaps_toks k (nodes_of pages) i b)
+      go (not_any h q) = s
       go (some_terms t h) = absurd (h (sym (children_at_lem F t.row.there) ∙ e))
 
-  pub perhaps_some : (n ≡ 0 → ⊥) → ((t : Terms (nodes_of io) i) → Puts (lane_in io) A A' r to (tok k ∷ tok BY ∷ terms_toks (nodes_of io) i t)) → Spells (perhaps_toks k) (nodes_of io) (lane_in io) A A' r to i
+  pub perhaps_some : (n ≡ 0 → ⊥) → ((t : Terms (nodes_of pages) i) → Wrote pages p q (tok k ∷ tok BY ∷ terms_toks (nodes_of pages) i t)) → Writ (perhaps_toks k) pages p q i
   perhaps_some g f = record { told = λ b. go b }
     where
-      go : (b : Perhaps (nodes_of io) i) → Puts (lane_in io) A A' r to (perhaps_toks k (nodes_of io) i b)
-      go (not_any h q) = absurd (g (children_at_lem F h ∙ q))
+      go : (b : Perhaps (nodes_of pages) i) → Wrote pages p q (perhaps_toks k (nodes_of pages) i b)
+      go (not_any h e) = absurd (g (children_at_lem F h ∙ e))
       go (some_terms t h) = f t
 
 -- ── what comes after the first child ──
@@ -152,69 +146,51 @@ module _ {io : Lists} {A A' : List ℕ} {r to i n : ℕ} (k : ℕ) (F : Field 2 
 in_said : (d : ℕ) (us : List Tok) → not_if d ++ (tok IN ∷ us) ≡ (not_if d ++ (tok IN ∷ [])) ++ us
 in_said d us = sym (append_assoc (not_if d) (tok IN ∷ []) us)
 
-module _ {io : Lists} {A A' : List ℕ} {r to i k : ℕ} where
-  pub trails_binary : {c d m j : ℕ} {A₁ : List ℕ} → Field 0 io i c → c ≡ node_binary → Field 1 io i d → Puts (lane_in io) A₁ A' r m (binary_toks d) → j ≡ i - 1 → Spells (term_toks (k + 1)) (nodes_of io) (lane_in io) A A₁ m to j → Trails k io A A' r to i
-  trails_binary {d = d} F e G p h s =
+module _ {pages : Pages} {p q : Pen} {i k : ℕ} where
+  pub trails_binary : {c d j : ℕ} {o : Pen} → Field 0 pages i c → c ≡ node_binary → Field 1 pages i d → Wrote pages o q (binary_toks d) → j ≡ i - 1 → Writ (term_toks (k + 1)) pages p o j → Trails k pages p q i
+  trails_binary F e G n h s =
       record {
-        told = λ t l q.
-            let w = t.whole in
+        told = λ t l a.
             let b : t.whole.code ≡ node_binary = sym (code_of t.whole F) ∙ e in
             let kids = binary_kids t.whole b in
-            let n : k ≡ binary_str t.whole.detail = q ∙ str_binary t.whole.code t.whole.detail b in
-            record {
-              ts = binary_toks t.whole.detail ++ at (binary_str t.whole.detail + 1) (piece_at kids.second);
-              led = binary_led t.whole b kids;
-              puts = puts_as (ap₂ (λ x y. binary_toks x ++ at (y + 1) (piece_at kids.second)) (sym (detail_of t.whole G)) (sym n)) (p after (spell_at h s (expr_term kids.second)));
-            };
+            let m : k ≡ binary_str t.whole.detail = a ∙ str_binary t.whole.code t.whole.detail b in
+            trailed (binary_led t.whole b kids) (wrote_as (ap₂ (λ x y. binary_toks x ++ at (y + 1) (piece_at kids.second)) (sym (detail_of t.whole G)) (sym m)) (n after (writ_at h s (expr_term kids.second))));
       }
 
-  pub trails_between : {c : ℕ} → Field 0 io i c → c ≡ node_between → Bounds io A A' r to i → Trails k io A A' r to i
-  trails_between F e s = record { told = λ t l q. s.told (coded t.whole (sym (code_of t.whole F) ∙ e)) }
+  pub trails_between : {c : ℕ} → Field 0 pages i c → c ≡ node_between → Bounds pages p q i → Trails k pages p q i
+  trails_between F e s = record { told = λ t l a. s.told (coded t.whole (sym (code_of t.whole F) ∙ e)) }
 
-  pub trails_in : {c d m j : ℕ} {A₁ : List ℕ} → Field 0 io i c → node_in_list ≤ c → c < node_between → Field 1 io i d → Puts (lane_in io) A₁ A' r m (not_if d ++ (tok IN ∷ [])) → j ≡ i - 1 → Spells inside_toks (nodes_of io) (lane_in io) A A₁ m to j → Trails k io A A' r to i
-  trails_in {c} {d = d} F lo hi G p h s = record { told = λ t l q. by_bool (eqb c node_in_list) (λ e. listed t (sym (code_of t.whole F) ∙ eqb_eq c node_in_list e)) (λ e. asked t (sym (code_of t.whole F) ∙ other e)) }
+  pub trails_in : {c d j : ℕ} {o : Pen} → Field 0 pages i c → node_in_list ≤ c → c < node_between → Field 1 pages i d → Wrote pages o q (not_if d ++ (tok IN ∷ [])) → j ≡ i - 1 → Writ inside_toks pages p o j → Trails k pages p q i
+  trails_in {c} {d = d} F lo hi G n h s = record { told = λ t l a. by_bool (eqb c node_in_list) (λ e. listed t (sym (code_of t.whole F) ∙ eqb_eq c node_in_list e)) (λ e. asked t (sym (code_of t.whole F) ∙ other e)) }
     where
       other : eqb c node_in_list ≡ false → c ≡ node_in_query
-      other e = let n : c ≡ node_in_list → ⊥ = λ q. absurd (0≢1 (sym e ∙ eqb-true c node_in_list q)) in omega (arith, lo, hi, n)
+      other e = let m : c ≡ node_in_list → ⊥ = λ z. absurd (0≢1 (sym e ∙ eqb-true c node_in_list z)) in omega (arith, lo, hi, m)
 
-      listed : (t : Term (nodes_of io) i) → t.whole.code ≡ node_in_list → Tailed t.whole (lane_in io) A A' r to
+      listed : (t : Term (nodes_of pages) i) → t.whole.code ≡ node_in_list → Trailed t.whole pages p q
       listed t b =
           let kids = in_list_kids t.whole b in
-          record {
-            ts = not_if t.whole.detail ++ (tok IN ∷ within (piece_at kids.second).toks);
-            led = in_list_led t.whole b kids;
-            puts = puts_as (ap₂ (λ x y. not_if x ++ (tok IN ∷ within y)) (sym (detail_of t.whole G)) (any_toks kids.second) ∙ in_said d (inside_toks (nodes_of io) (i - 1) (in_any kids.second))) (p after (spell_at h s (in_any kids.second)));
-          }
+          trailed (in_list_led t.whole b kids) (wrote_as (ap₂ (λ x y. not_if x ++ (tok IN ∷ within y)) (sym (detail_of t.whole G)) (any_toks kids.second) ∙ in_said d (inside_toks (nodes_of pages) (i - 1) (in_any kids.second))) (n after (writ_at h s (in_any kids.second))))
 
-      asked : (t : Term (nodes_of io) i) → t.whole.code ≡ node_in_query → Tailed t.whole (lane_in io) A A' r to
+      asked : (t : Term (nodes_of pages) i) → t.whole.code ≡ node_in_query → Trailed t.whole pages p q
       asked t b =
           let kids = in_query_kids t.whole b in
-          record {
-            ts = not_if t.whole.detail ++ (tok IN ∷ within (piece_at kids.second).toks);
-            led = in_query_led t.whole b kids;
-            puts = puts_as (ap (λ x. not_if x ++ (tok IN ∷ within (piece_at kids.second).toks)) (sym (detail_of t.whole G)) ∙ in_said d (inside_toks (nodes_of io) (i - 1) (in_query kids.second))) (p after (spell_at h s (in_query kids.second)));
-          }
+          trailed (in_query_led t.whole b kids) (wrote_as (ap (λ x. not_if x ++ (tok IN ∷ within (piece_at kids.second).toks)) (sym (detail_of t.whole G)) ∙ in_said d (inside_toks (nodes_of pages) (i - 1) (in_query kids.second))) (n after (writ_at h s (in_query kids.second))))
 
-module _ {io : Lists} {i : ℕ} where
-  pub in_given : {c : ℕ} → Field 0 io i c → node_in_list ≤ c → c < node_between → Term (nodes_of io) i → Inside (nodes_of io) (i - 1)
+module _ {pages : Pages} {i : ℕ} where
+  pub in_given : {c : ℕ} → Field 0 pages i c → node_in_list ≤ c → c < node_between → Term (nodes_of pages) i → Inside (nodes_of pages) (i - 1)
   in_given {c} F lo hi t =
       by_bool (eqb c node_in_list) (λ e. in_any (in_list_kids t.whole (sym (code_of t.whole F) ∙ eqb_eq c node_in_list e)).second)
       (λ e. let n : c ≡ node_in_list → ⊥ = λ q. absurd (0≢1 (sym e ∙ eqb-true c node_in_list q)) in let b : c ≡ node_in_query = omega (arith, lo, hi, n) in in_query (in_query_kids t.whole (sym (code_of t.whole F) ∙ b)).second)
 
 -- BETWEEN low AND high
-pub bounds_by : {io : Lists} {A A₁ A₂ A₃ A' : List ℕ} {r m m₂ m₃ to i d j l : ℕ} → Field 1 io i d → Puts (lane_in io) A₃ A' r m (not_if d ++ (tok BETWEEN ∷ [])) → l ≡ before_of (nodes_of io) (i - 1) → Spells (term_toks 5) (nodes_of io) (lane_in io) A₂ A₃ m m₂ l
-    → Puts (lane_in io) A₁ A₂ m₂ m₃ (tok AND ∷ []) → j ≡ i - 1 → Spells (term_toks 5) (nodes_of io) (lane_in io) A A₁ m₃ to j → Bounds io A A' r to i
-bounds_by {d = d} G p g low a h high =
+pub bounds_by : {pages : Pages} {p p₁ p₂ p₃ q : Pen} {i d j l : ℕ} → Field 1 pages i d → Wrote pages p₃ q (not_if d ++ (tok BETWEEN ∷ [])) → l ≡ before_of (nodes_of pages) (i - 1) → Writ (term_toks 5) pages p₂ p₃ l → Wrote pages p₁ p₂ (tok AND ∷ []) → j ≡ i - 1 → Writ (term_toks 5) pages p p₁ j → Bounds pages p q i
+bounds_by {d = d} G n g low a h high =
     record {
       told = λ w.
           let k = between_kids w.whole w.is in
-          let us = at 5 (piece_at k.second) ++ (tok AND ∷ at 5 (piece_at k.third)) in
-          record {
-            ts = not_if w.whole.detail ++ (tok BETWEEN ∷ (at 5 (piece_at k.second) ++ (tok AND ∷ at 5 (piece_at k.third))));
-            led = between_led w.whole w.is k;
-            puts = puts_as (ap (λ x. not_if x ++ (tok BETWEEN ∷ (at 5 (piece_at k.second) ++ (tok AND ∷ at 5 (piece_at k.third))))) (sym (detail_of w.whole G)) ∙ sym (append_assoc (not_if d) (tok BETWEEN ∷ []) (at 5 (piece_at k.second) ++ (tok AND ∷ at 5 (piece_at k.third)))))
-                (p after (spell_at g low (expr_term k.second) after (a after spell_at h high (expr_term k.third))));
-          };
+          trailed (between_led w.whole w.is k)
+          (wrote_as (ap (λ x. not_if x ++ (tok BETWEEN ∷ (at 5 (piece_at k.second) ++ (tok AND ∷ at 5 (piece_at k.third))))) (sym (detail_of w.whole G)) ∙ sym (append_assoc (not_if d) (tok BETWEEN ∷ []) (at 5 (piece_at k.second) ++ (tok AND ∷ at 5 (piece_at k.third)))))
+          (n after (writ_at g low (expr_term k.second) after (a after writ_at h high (expr_term k.third)))));
     }
 
 -- ── CASE, CAST, calls ──
@@ -283,41 +259,41 @@ part_there (inr w) = (known w).there
 pub part_on : {N : List ℕ} {i : ℕ} → Whole a_join N i → Maybe a_constraint N (i - 1)
 part_on w = (join_kids w (join_is w)).second
 
-module _ {io : Lists} {A A' : List ℕ} {r to i c : ℕ} (F : Field 0 io i c) where
-  pub constraint_on : c ≡ node_join → {j : ℕ} → j ≡ i - 1 → Spells (bare_toks a_constraint) (nodes_of io) (lane_in io) A A' r to j → Spells constraint_toks (nodes_of io) (lane_in io) A A' r to i
-  constraint_on e h s = record { told = λ p. go p }
+module _ {pages : Pages} {p q : Pen} {i c : ℕ} (F : Field 0 pages i c) where
+  pub constraint_on : c ≡ node_join → {j : ℕ} → j ≡ i - 1 → Writ (bare_toks a_constraint) pages p q j → Writ constraint_toks pages p q i
+  constraint_on e h s = record { told = λ x. go x }
     where
-      go : (p : Part (nodes_of io) i) → Puts (lane_in io) A A' r to (constraint_toks (nodes_of io) i p)
-      go (inl w) = absurd (⊎_elim (λ q. let x = code_of w F in omega (arith, e, q, x)) (λ q. let x = code_of w F in omega (arith, e, q, x)) (source_is w))
-      go (inr w) = spell_at h s (join_kids w (join_is w)).second
+      go : (x : Part (nodes_of pages) i) → Wrote pages p q (constraint_toks (nodes_of pages) i x)
+      go (inl w) = absurd (⊎_elim (λ z. let x = code_of w F in omega (arith, e, z, x)) (λ z. let x = code_of w F in omega (arith, e, z, x)) (source_is w))
+      go (inr w) = writ_at h s (join_kids w (join_is w)).second
 
-  pub constraint_none : (c ≡ node_join → ⊥) → Puts (lane_in io) A A' r to [] → Spells constraint_toks (nodes_of io) (lane_in io) A A' r to i
-  constraint_none n x = record { told = λ p. go p }
+  pub constraint_none : (c ≡ node_join → ⊥) → Wrote pages p q [] → Writ constraint_toks pages p q i
+  constraint_none n s = record { told = λ x. go x }
     where
-      go : (p : Part (nodes_of io) i) → Puts (lane_in io) A A' r to (constraint_toks (nodes_of io) i p)
-      go (inl w) = x
+      go : (x : Part (nodes_of pages) i) → Wrote pages p q (constraint_toks (nodes_of pages) i x)
+      go (inl w) = s
       go (inr w) = absurd (n (code_of w F ∙ join_is w))
 
 -- its ON or USING
-module _ {io : Lists} {i c : ℕ} (F : Field 0 io i c) where
-  pub on_there : {k : ℕ} → c ≡ k → 0 < k → (m : Maybe a_constraint (nodes_of io) i) → (w : Whole a_constraint (nodes_of io) i) × (w.code ≡ k) × (may_piece m ≡ piece_at w)
+module _ {pages : Pages} {i c : ℕ} (F : Field 0 pages i c) where
+  pub on_there : {k : ℕ} → c ≡ k → 0 < k → (m : Maybe a_constraint (nodes_of pages) i) → (w : Whole a_constraint (nodes_of pages) i) × (w.code ≡ k) × (may_piece m ≡ piece_at w)
   on_there {k} e h m =
-      let q : code_at (nodes_of io) i ≡ k = sym (code_at_lem F (may_there m).0) ∙ e in
+      let q : code_at (nodes_of pages) i ≡ k = sym (code_at_lem F (may_there m).0) ∙ e in
       let x = constraint_here m (omega (arith, h, q)) in
       (x.0, code_is x.0 q, x.1)
 
-  pub on_said : (e : c ≡ node_on) (m : Maybe a_constraint (nodes_of io) i) → (x : Whole an_expr (nodes_of io) (i - 1)) × (bare_toks a_constraint (nodes_of io) i m ≡ may_toks an_expr (tok ON ∷ []) (nodes_of io) (i - 1) (inl x))
+  pub on_said : (e : c ≡ node_on) (m : Maybe a_constraint (nodes_of pages) i) → (x : Whole an_expr (nodes_of pages) (i - 1)) × (bare_toks a_constraint (nodes_of pages) i m ≡ may_toks an_expr (tok ON ∷ []) (nodes_of pages) (i - 1) (inl x))
   on_said e m =
       let k = on_there e (omega arith) m in
       let kids = on_kids k.0 k.1 in
       (kids.first, ap (λ z. z.toks) k.2 ∙ (on_spelt k.0 k.1 kids).toks ∙ sym (after_here (tok ON ∷ []) refl kids.first))
 
-  pub using_said : (e : c ≡ node_using) (m : Maybe a_constraint (nodes_of io) i) → (x : Row a_name (nodes_of io) i) × (bare_toks a_constraint (nodes_of io) i m ≡ using_toks (nodes_of io) i x)
+  pub using_said : (e : c ≡ node_using) (m : Maybe a_constraint (nodes_of pages) i) → (x : Row a_name (nodes_of pages) i) × (bare_toks a_constraint (nodes_of pages) i m ≡ using_toks (nodes_of pages) i x)
   using_said e m =
       let k = on_there e (omega arith) m in
       (row_of k.0 (shaped_more (using_shape k.0 k.1)), ap (λ z. z.toks) k.2 ∙ (using_spelt k.0 k.1).toks)
 
-  pub on_none : (c ≡ node_on → ⊥) → (c ≡ node_using → ⊥) → (m : Maybe a_constraint (nodes_of io) i) → bare_toks a_constraint (nodes_of io) i m ≡ []
+  pub on_none : (c ≡ node_on → ⊥) → (c ≡ node_using → ⊥) → (m : Maybe a_constraint (nodes_of pages) i) → bare_toks a_constraint (nodes_of pages) i m ≡ []
   on_none a b m = let q = code_at_lem F (may_there m).0 in constraint_gone m (λ z. a (q ∙ z)) (λ z. b (q ∙ z))
 
 -- ── an operand ──

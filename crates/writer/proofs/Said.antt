@@ -1,8 +1,8 @@
 -- What each of the writer's functions writes, by the tests that it makes. Assumes nothing.
-use mathlib.Core.Bool.{Bool, true, false, cond}
+use mathlib.Core.Bool.{true, false}
 use mathlib.Core.List.{List, [], ◌∷◌, ◌++◌, append_assoc}
 use mathlib.Core.Logic.{◌⊎◌, inl, inr, ⊎_elim}
-use mathlib.Core.Path.{◌≡◌, refl, sym, ap, ap₂, ◌∙◌, subst, subst⁻¹}
+use mathlib.Core.Path.{◌≡◌, refl, sym, ap, ap₂, ◌∙◌, subst⁻¹}
 use Prim.Native.Nat.{ℕ, suc, ◌+◌, ◌-◌, ◌/◌, ◌<◌, ◌≤◌}
 use lib.Dec.{eqb}
 use native.Mathlib.Omega.{arith}
@@ -19,27 +19,24 @@ use Rattle.grammar.specs.NodeNames.{node_absent, node_star, node_name_star, node
 use Rattle.grammar.specs.Reading.{choose}
 use Rattle.grammar.specs.Writing.{tok, toktext, after, node_str, binary_toks, binary_str, join_of, join_words}
 use Rattle.shapes.specs.Shape.{Class, a_name, an_expr, a_column, a_sort, a_source, a_join, a_query, a_body, a_from, a_constraint, absence, list_of, any_of, empty_list, Joining}
-use Rattle.scribe.proofs.Standing.{Puts}
-use Rattle.scribe.proofs.Tokens.{puts_as, ◌after◌}
 use Rattle.scribe.proofs.Whole.{Whole, piece_at}
 use Rattle.scribe.proofs.Kids.{known, Maybe, may_piece, may_there, Kids4, must, may}
 use Rattle.scribe.proofs.Spelt.{literal_kind, name_kind, next_of, name_spelt, null_spelt, star_spelt, name_star_kids, name_star_spelt, literal_spelt, expr_range, column_range, sort_is, source_is, join_is, join_detail, join_worded, parens_one, parens_some, piece_there, table_kids_lem, table_spelt, null_test_kids, collate_kids, column_kids, sort_kids}
 use Rattle.scribe.proofs.Clauses.{code_at, may_gone, may_here, clause_gone, clause_here}
 use Rattle.scribe.proofs.Leading.{backs, null_test_led, collate_led, column_led, sort_led}
-use Rattle.scribe.proofs.Parts.{Coded, Term, is_term, Leaf, Part, leads_of, node_toks, leaf_toks, coded_toks, alias_toks, schema_toks, titled_toks, index_toks, nulls_toks, way_toks, join_toks, source_of, opens, Spells}
-use Rattle.writer.specs.Pages.{Lists, nodes_of, lane_in, Field, Bared, Taken, Closes}
+use Rattle.scribe.proofs.Parts.{Coded, Term, is_term, Leaf, Part, leads_of, node_toks, leaf_toks, coded_toks, alias_toks, schema_toks, titled_toks, index_toks, nulls_toks, way_toks, join_toks, source_of, opens}
+use Rattle.writer.specs.declared.lent.Pages.{Pages}
+use Rattle.writer.specs.declared.spelling.Pen.{Pen}
+use Rattle.writer.specs.Pages.{nodes_of, Field, Bared, Taken, Wrote, Writ, Closes}
+use Rattle.writer.proofs.Pens.{◌after◌, wrote_as, writ_at, trailed}
 use Rattle.writer.proofs.Leaves.{code_at_lem, code_of, detail_of, children_of, backs_most}
 
--- what a callee wrote of whatever ends at a place, where the place is known otherwise
-pub spell_at : {X : List ℕ → ℕ → Type 0} {toks : (N : List ℕ) (i : ℕ) → X N i → List Tok} {N : List ℕ} {lane : ℕ} {A A' : List ℕ} {r to i j : ℕ} → i ≡ j → Spells toks N lane A A' r to i → (w : X N j) → Puts lane A A' r to (toks N j w)
-spell_at {toks = toks} {N = N} {lane = lane} {A = A} {A' = A'} {r = r} {to = to} e s = (subst (λ z. Spells toks N lane A A' r to z) e s).told
-
 -- ── numbers of records ──
-module _ {C : Class} {io : Lists} {i r : ℕ} (m : Maybe C (nodes_of io) i) (F : Field 0 io i r) where
-  pub is_absent : r ≡ 0 → code_at (nodes_of io) i ≡ node_absent
+module _ {C : Class} {pages : Pages} {i r : ℕ} (m : Maybe C (nodes_of pages) i) (F : Field 0 pages i r) where
+  pub is_absent : r ≡ 0 → code_at (nodes_of pages) i ≡ node_absent
   is_absent e = sym (code_at_lem F (may_there m).0) ∙ e
 
-  pub is_there : (r ≡ 0 → ⊥) → code_at (nodes_of io) i ≡ node_absent → ⊥
+  pub is_there : (r ≡ 0 → ⊥) → code_at (nodes_of pages) i ≡ node_absent → ⊥
   is_there h e = h (code_at_lem F (may_there m).0 ∙ e)
 
 -- ── names and literals ──
@@ -237,43 +234,43 @@ join_said d h {w} e =
 no_join : {N : List ℕ} {i : ℕ} (w : Whole a_source N i) → code_at N i ≡ node_join → ⊥
 no_join w e = let c = (known w).code in ⊎_elim (λ q. absurd (omega (arith, q, c, e))) (λ q. absurd (omega (arith, q, c, e))) (source_is w)
 
-module _ {io : Lists} {i r : ℕ} (F : Field 0 io i r) where
-  part_there : Part (nodes_of io) i → 0 < i
+module _ {pages : Pages} {i r : ℕ} (F : Field 0 pages i r) where
+  part_there : Part (nodes_of pages) i → 0 < i
   part_there (inl w) = (known w).there
   part_there (inr w) = (known w).there
 
-  pub part_source : (p : Part (nodes_of io) i) → (r ≡ node_join → ⊥) → Whole a_source (nodes_of io) i
+  pub part_source : (p : Part (nodes_of pages) i) → (r ≡ node_join → ⊥) → Whole a_source (nodes_of pages) i
   part_source (inl w) h = w
   part_source (inr w) h = absurd (h (code_of w F ∙ join_is w))
 
-  pub part_join : (p : Part (nodes_of io) i) → r ≡ node_join → Whole a_join (nodes_of io) i
+  pub part_join : (p : Part (nodes_of pages) i) → r ≡ node_join → Whole a_join (nodes_of pages) i
   part_join (inl w) e = absurd (no_join w (sym (code_at_lem F (known w).there) ∙ e))
   part_join (inr w) e = w
 
-  pub no_join_toks : (p : Part (nodes_of io) i) → (r ≡ node_join → ⊥) → join_toks (nodes_of io) i p ≡ []
+  pub no_join_toks : (p : Part (nodes_of pages) i) → (r ≡ node_join → ⊥) → join_toks (nodes_of pages) i p ≡ []
   no_join_toks (inl w) h = refl
   no_join_toks (inr w) h = absurd (h (code_of w F ∙ join_is w))
 
-  pub join_toks_lem : (p : Part (nodes_of io) i) → r ≡ node_join → {d : ℕ} → Field 1 io i d → Joining d × (join_toks (nodes_of io) i p ≡ join_of d)
+  pub join_toks_lem : (p : Part (nodes_of pages) i) → r ≡ node_join → {d : ℕ} → Field 1 pages i d → Joining d × (join_toks (nodes_of pages) i p ≡ join_of d)
   join_toks_lem (inl w) e G = absurd (no_join w (sym (code_at_lem F (known w).there) ∙ e))
   join_toks_lem (inr w) e G = (subst⁻¹ Joining (detail_of w G) (join_detail w (join_is w)), ap join_of (sym (detail_of w G)))
 
-  pub taken_join : {b : ℕ} → r ≡ node_join → b ≡ backs (nodes_of io) 1 (i - 1) → Taken io i b
+  pub taken_join : {b : ℕ} → r ≡ node_join → b ≡ backs (nodes_of pages) 1 (i - 1) → Taken pages i b
   unfolding backs
   taken_join {b} e h =
       record {
-        most = let m = backs_most (nodes_of io) 1 (i - 1) in omega (arith, h, m);
+        most = let m = backs_most (nodes_of pages) 1 (i - 1) in omega (arith, h, m);
         is = λ p. at p;
       }
     where
-      at : (p : Part (nodes_of io) i) → b ≡ source_of (nodes_of io) i p
+      at : (p : Part (nodes_of pages) i) → b ≡ source_of (nodes_of pages) i p
       at (inl w) = absurd (no_join w (sym (code_at_lem F (known w).there) ∙ e))
       at (inr w) = h
 
-  pub taken_source : (r ≡ node_join → ⊥) → Taken io i i
+  pub taken_source : (r ≡ node_join → ⊥) → Taken pages i i
   taken_source h = record { most = omega arith; is = λ p. at p }
     where
-      at : (p : Part (nodes_of io) i) → i ≡ source_of (nodes_of io) i p
+      at : (p : Part (nodes_of pages) i) → i ≡ source_of (nodes_of pages) i p
       at (inl w) = refl
       at (inr w) = absurd (h (code_of w F ∙ join_is w))
 
@@ -315,77 +312,53 @@ module _ {N : List ℕ} {i : ℕ} where
 abbrev pub expr_term : {N : List ℕ} {i : ℕ} → Whole an_expr N i → Term N i
 expr_term w = record { class = an_expr; term = refl; whole = w }
 
-abbrev pub BaredTo : Lists → ℕ → ℕ → Type 0
-BaredTo io i r = (r ≤ i) × ((t : Term (nodes_of io) i) → (v : Term (nodes_of io) r) × (piece_at t.whole ≡ piece_at v.whole))
+abbrev pub BaredTo : Pages → ℕ → ℕ → Type 0
+BaredTo pages i r = (r ≤ i) × ((t : Term (nodes_of pages) i) → (v : Term (nodes_of pages) r) × (piece_at t.whole ≡ piece_at v.whole))
 
-module _ {io : Lists} {i r : ℕ} (b : BaredTo io i r) {c : ℕ} (F : Field 0 io r c) where
-  pub bare_on : c ≡ node_parens → {n l : ℕ} → Field 2 io r n → n ≡ 1 → l ≡ r - 1 → BaredTo io i l
+module _ {pages : Pages} {i r : ℕ} (b : BaredTo pages i r) {c : ℕ} (F : Field 0 pages r c) where
+  pub bare_on : c ≡ node_parens → {n l : ℕ} → Field 2 pages r n → n ≡ 1 → l ≡ r - 1 → BaredTo pages i l
   bare_on e {n} {l} G h k = (
     let m = b.0 in omega (arith, m, k),
     (λ t. let v = b.1 t in
         let p = parens_one v.0.whole (sym (code_of v.0.whole F) ∙ e) (sym (children_of v.0.whole G) ∙ h) in
-        subst⁻¹ (λ z. (v : Term (nodes_of io) z) × (piece_at t.whole ≡ piece_at v.whole)) k (expr_term p.0, v.1 ∙ p.1)),
+        subst⁻¹ (λ z. (v : Term (nodes_of pages) z) × (piece_at t.whole ≡ piece_at v.whole)) k (expr_term p.0, v.1 ∙ p.1)),
   )
 
-  pub bare_many : c ≡ node_parens → {n : ℕ} → Field 2 io r n → (n ≡ 1 → ⊥) → Bared io i r
+  pub bare_many : c ≡ node_parens → {n : ℕ} → Field 2 pages r n → (n ≡ 1 → ⊥) → Bared pages i r
   bare_many e G h =
       record {
         most = b.0;
         told = λ t. let v = b.1 t in (v.0, v.1, λ q. let s = parens_some v.0.whole q in let x = children_of v.0.whole G in omega (arith, s, x, h));
       }
 
-  pub bare_other : (c ≡ node_parens → ⊥) → Bared io i r
+  pub bare_other : (c ≡ node_parens → ⊥) → Bared pages i r
   bare_other h = record { most = b.0; told = λ t. let v = b.1 t in (v.0, v.1, λ q. absurd (h (code_of v.0.whole F ∙ q))) }
 
 -- ── LP, so many times ──
-pub opens_none : (p : ℕ) → opens (p - p) [] ≡ []
+pub opens_none : opens 0 [] ≡ []
 unfolding opens
-opens_none p = ap (λ z. opens z []) (let e : p - p ≡ 0 = omega arith in e)
+opens_none = refl
 
-pub opens_next : (p n : ℕ) → n ≤ p → 0 < n → opens (p - (n - 1)) [] ≡ tok LP ∷ opens (p - n) []
+pub opens_next : (n : ℕ) → opens (n + 1) [] ≡ tok LP ∷ opens n []
 unfolding opens
-opens_next p n h g = ap (λ z. opens z []) (let e : p - (n - 1) ≡ suc (p - n) = omega (arith, h, g) in e)
-
-pub opens_all : (p n : ℕ) → n ≤ 0 → opens p [] ≡ opens (p - n) []
-opens_all p n h = ap (λ z. opens z []) (let e : p ≡ p - n = omega (arith, h) in e)
-
-pub more_most : (b : Bool) (n : ℕ) {r : ℕ} → r ≡ choose b (n + 1) n → r ≤ n + 1
-unfolding choose
-more_most true n e = omega (arith, e)
-more_most false n e = omega (arith, e)
+opens_next n = ap (λ z. opens z []) (let e : n + 1 ≡ suc n = omega arith in e)
 
 -- ── where no expression comes after the first child ──
-module _ {io : Lists} {A A' : List ℕ} {r to i c : ℕ} where
-  pub closes_null : {d : ℕ} → c ≡ node_null_test → Field 1 io i d → Puts (lane_in io) A A' r to (tok d ∷ []) → Closes c io A A' r to i
-  closes_null {d} e F p =
-      record {
-        told = λ t l q a b f g.
-            let k = sym q ∙ e in
-            record { ts = tok t.whole.detail ∷ []; led = null_test_led t.whole k (null_test_kids t.whole k); puts = puts_as (ap (λ z. tok z ∷ []) (sym (detail_of t.whole F))) p };
-      }
+module _ {pages : Pages} {p q : Pen} {i c : ℕ} where
+  pub closes_null : {d : ℕ} → c ≡ node_null_test → Field 1 pages i d → Wrote pages p q (tok d ∷ []) → Closes c pages p q i
+  closes_null e F s = record { told = λ t l h a b f g. let k = sym h ∙ e in trailed (null_test_led t.whole k (null_test_kids t.whole k)) (wrote_as (ap (λ z. tok z ∷ []) (sym (detail_of t.whole F))) s) }
 
-  pub closes_column : {j : ℕ} → c ≡ node_column → j ≡ i - 1 → Spells alias_toks (nodes_of io) (lane_in io) A A' r to j → Closes c io A A' r to i
-  closes_column e h s =
-      record {
-        told = λ t l q a b f g.
-            let k = sym q ∙ e in
-            let x = column_kids t.whole k in
-            record { ts = (after) (tok AS ∷ []) (may_piece x.second); led = column_led t.whole k x; puts = spell_at h s x.second };
-      }
+  pub closes_column : {j : ℕ} → c ≡ node_column → j ≡ i - 1 → Writ alias_toks pages p q j → Closes c pages p q i
+  closes_column e h s = record { told = λ t l n a b f g. let k = sym n ∙ e in let x = column_kids t.whole k in trailed (column_led t.whole k x) (writ_at h s x.second) }
 
-  pub closes_sort : {d : ℕ} → c ≡ node_sort → Field 1 io i d → Puts (lane_in io) A A' r to (way_toks d) → Closes c io A A' r to i
-  closes_sort {d} e F p =
-      record {
-        told = λ t l q a b f g.
-            let k = sym q ∙ e in
-            record { ts = way_toks t.whole.detail; led = sort_led t.whole k (sort_kids t.whole k); puts = puts_as (ap way_toks (sym (detail_of t.whole F))) p };
-      }
+  pub closes_sort : {d : ℕ} → c ≡ node_sort → Field 1 pages i d → Wrote pages p q (way_toks d) → Closes c pages p q i
+  closes_sort e F s = record { told = λ t l h a b f g. let k = sym h ∙ e in trailed (sort_led t.whole k (sort_kids t.whole k)) (wrote_as (ap way_toks (sym (detail_of t.whole F))) s) }
 
-  pub closes_collate : (c ≡ 40 → ⊥) → (c ≡ 7 → ⊥) → (c ≡ 14 → ⊥) → {j m : ℕ} {A₁ : List ℕ} → j ≡ i - 1 → Spells (node_toks a_name) (nodes_of io) (lane_in io) A A₁ m to j → Puts (lane_in io) A₁ A' r m (tok COLLATE ∷ []) → Closes c io A A' r to i
-  closes_collate x y z h s p =
+  pub closes_collate : (c ≡ 40 → ⊥) → (c ≡ 7 → ⊥) → (c ≡ 14 → ⊥) → {j : ℕ} {o : Pen} → j ≡ i - 1 → Writ (node_toks a_name) pages p o j → Wrote pages o q (tok COLLATE ∷ []) → Closes c pages p q i
+  closes_collate x y z h s n =
       record {
-        told = λ t l q a b f g.
-            let k : t.whole.code ≡ 44 = sym q ∙ leads_last (ap leads_of q ∙ l) y z a x f g b in
+        told = λ t l e a b f g.
+            let k : t.whole.code ≡ 44 = sym e ∙ leads_last (ap leads_of e ∙ l) y z a x f g b in
             let kids = collate_kids t.whole k in
-            record { ts = tok COLLATE ∷ (piece_at kids.second).toks; led = collate_led t.whole k kids; puts = ◌after◌ p (spell_at h s kids.second) };
+            trailed (collate_led t.whole k kids) (◌after◌ n (writ_at h s kids.second));
       }

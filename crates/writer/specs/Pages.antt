@@ -1,75 +1,81 @@
 -- What the writer's functions promise each other. Definitions only; nothing published rests on them.
-use Rattle.std.specs.Prelude.{true, List, [], map, ◌≡◌, ℕ, ◌+◌, ◌-◌, ◌*◌, ◌<◌, ◌≤◌, length, get_or}
-use Rattle.std.specs.Borrow.{Bor}
+use Rattle.std.specs.Prelude.{true, List, ◌≡◌, ℕ, ◌+◌, ◌-◌, ◌*◌, ◌<◌, ◌≤◌, get_or}
+use Rattle.writer.specs.declared.spelling.Pen.{Pen}
+use Rattle.writer.specs.declared.lent.Pages.{Pages}
+use Rattle.writer.specs.declared.lent.Numbers.{Numbers}
+use Rattle.writer.specs.declared.lent.Numbers.TheVariants.{Kinds, Texts}
 use Rattle.theory.specs.Trees.{Tok}
-use Rattle.kinds.specs.Strength.{strength_table}
 use Rattle.grammar.specs.Sizes.{TOKENS, WIDTH}
 use Rattle.grammar.specs.NodeNames.{node_parens, node_binary, node_in_list, node_in_query, node_between}
 use Rattle.grammar.specs.Nodes.{count}
 use Rattle.grammar.specs.Writing.{node_str}
 use Rattle.grammar.specs.Promise.{Reads, Writes}
+use Rattle.shapes.specs.Shape.{Class}
 use Rattle.scribe.proofs.Standing.{Puts}
-use Rattle.scribe.proofs.Whole.{piece_at}
+use Rattle.scribe.proofs.Whole.{Whole, piece_at}
 use Rattle.scribe.proofs.Leading.{backs}
 use Rattle.scribe.proofs.Clauses.{children_at}
-use Rattle.scribe.proofs.Parts.{Coded, Term, Part, leads_of, source_of, Spells, Tailed}
+use Rattle.scribe.proofs.Parts.{Coded, Term, Part, leads_of, source_of, Tailed}
 
--- what is lent: the records, the table of strengths, and a list that is empty where the kinds are written and not where the texts are
-abbrev pub Lists : Type 0
-Lists = List (Bor (List ℕ))
+-- the records that are lent
+abbrev pub nodes_of : Pages → List ℕ
+nodes_of pages = pages.nodes.now
 
-abbrev pub nodes_of : Lists → List ℕ
-nodes_of io = get_or (map (λ x. x.now) io) 0 []
+-- the list that is written: the kinds, or the texts
+abbrev pub lane_of_numbers : Numbers → ℕ
+lane_of_numbers Kinds = 0
+lane_of_numbers Texts = 1
 
-abbrev pub strengths_of : Lists → List ℕ
-strengths_of io = get_or (map (λ x. x.now) io) 1 []
-
-abbrev pub lane_in : Lists → ℕ
-lane_in io = length (get_or (map (λ x. x.now) io) 2 [])
-
--- the table lent is 01's
-abbrev pub Ruled : Lists → Type 0
-Ruled io = strengths_of io ≡ strength_table
+abbrev pub lane_in : Pages → ℕ
+lane_in pages = lane_of_numbers pages.numbers
 
 -- ── reads ──
 -- r is the number f of the record of a node that ends at i
-pub record Field (f : ℕ) (io : Lists) (i r : ℕ) : Type 0 where
+pub record Field (f : ℕ) (pages : Pages) (i r : ℕ) : Type 0 where
   pub some : 0 < r → 0 < i
-  pub is : 0 < i → r ≡ get_or (nodes_of io) (WIDTH * (i - 1) + f) 0
+  pub is : 0 < i → r ≡ get_or (nodes_of pages) (WIDTH * (i - 1) + f) 0
 
 -- r is where the first child ends
-pub record First (io : Lists) (i r : ℕ) : Type 0 where
+pub record First (pages : Pages) (i r : ℕ) : Type 0 where
   pub most : r ≤ i - 1
-  pub is : 0 < i → r ≡ backs (nodes_of io) (children_at (nodes_of io) i - 1) (i - 1)
+  pub is : 0 < i → r ≡ backs (nodes_of pages) (children_at (nodes_of pages) i - 1) (i - 1)
 
 -- what ends at r is what ends at i without one-member parentheses
-pub record Bared (io : Lists) (i r : ℕ) : Type 0 where
+pub record Bared (pages : Pages) (i r : ℕ) : Type 0 where
   pub most : r ≤ i
-  pub told : (t : Term (nodes_of io) i) → (v : Term (nodes_of io) r) × (piece_at t.whole ≡ piece_at v.whole) × (v.whole.code ≡ node_parens → 1 < count v.whole.kids)
+  pub told : (t : Term (nodes_of pages) i) → (v : Term (nodes_of pages) r) × (piece_at t.whole ≡ piece_at v.whole) × (v.whole.code ≡ node_parens → 1 < count v.whole.kids)
 
 -- the source of a part of FROM ends at r
-pub record Taken (io : Lists) (i r : ℕ) : Type 0 where
+pub record Taken (pages : Pages) (i r : ℕ) : Type 0 where
   pub most : r ≤ i
-  pub is : (p : Part (nodes_of io) i) → r ≡ source_of (nodes_of io) i p
+  pub is : (p : Part (nodes_of pages) i) → r ≡ source_of (nodes_of pages) i p
 
 -- ── writes ──
-abbrev pub Wrote : Lists → List ℕ → List ℕ → ℕ → ℕ → List Tok → Type 0
-Wrote io A A' r to ts = Puts (lane_in io) A A' r to ts
+-- a pen wrote these tokens, before those that it had written: in the same list, which was p's and is q's
+pub record Wrote (pages : Pages) (p q : Pen) (ts : List Tok) : Type 0 where
+  pub same : q.out.ghost_name ≡ p.out.ghost_name
+  pub puts : Puts (lane_in pages) p.out.now q.out.now q.to p.to ts
 
-abbrev pub Writ : {X : List ℕ → ℕ → Type 0} → ((N : List ℕ) (i : ℕ) → X N i → List Tok) → Lists → List ℕ → List ℕ → ℕ → ℕ → ℕ → Type 0
-Writ toks io A A' r to i = Spells toks (nodes_of io) (lane_in io) A A' r to i
+-- .. whatever ends at i, its tokens
+pub record Writ {X : List ℕ → ℕ → Type 0} (toks : (N : List ℕ) (i : ℕ) → X N i → List Tok) (pages : Pages) (p q : Pen) (i : ℕ) : Type 0 where
+  pub told : (w : X (nodes_of pages) i) → Wrote pages p q (toks (nodes_of pages) i w)
 
--- of a term whose first child stands first, all but that child: where the term has this strength
-pub record Trails (k : ℕ) (io : Lists) (A A' : List ℕ) (r to i : ℕ) : Type 0 where
-  pub told : (t : Term (nodes_of io) i) → leads_of t.whole.code ≡ true → k ≡ node_str t.whole.code t.whole.detail → Tailed t.whole (lane_in io) A A' r to
+-- .. of a node whose first child stands first, all but that child
+pub record Trailed {C : Class} {N : List ℕ} {i : ℕ} (w : Whole C N i) (pages : Pages) (p q : Pen) : Type 0 where
+  pub same : q.out.ghost_name ≡ p.out.ghost_name
+  pub tail : Tailed w (lane_in pages) p.out.now q.out.now q.to p.to
+
+-- .. of such a term, where it has this strength
+pub record Trails (k : ℕ) (pages : Pages) (p q : Pen) (i : ℕ) : Type 0 where
+  pub told : (t : Term (nodes_of pages) i) → leads_of t.whole.code ≡ true → k ≡ node_str t.whole.code t.whole.detail → Trailed t.whole pages p q
 
 -- .. where no expression comes after that child
-pub record Closes (c : ℕ) (io : Lists) (A A' : List ℕ) (r to i : ℕ) : Type 0 where
-  pub told : (t : Term (nodes_of io) i) → leads_of t.whole.code ≡ true → c ≡ t.whole.code → (c ≡ node_binary → ⊥) → (c ≡ node_between → ⊥) → (c ≡ node_in_list → ⊥) → (c ≡ node_in_query → ⊥) → Tailed t.whole (lane_in io) A A' r to
+pub record Closes (c : ℕ) (pages : Pages) (p q : Pen) (i : ℕ) : Type 0 where
+  pub told : (t : Term (nodes_of pages) i) → leads_of t.whole.code ≡ true → c ≡ t.whole.code → (c ≡ node_binary → ⊥) → (c ≡ node_between → ⊥) → (c ≡ node_in_list → ⊥) → (c ≡ node_in_query → ⊥) → Trailed t.whole pages p q
 
 -- .. of BETWEEN
-pub record Bounds (io : Lists) (A A' : List ℕ) (r to i : ℕ) : Type 0 where
-  pub told : (w : Coded node_between (nodes_of io) i) → Tailed w.whole (lane_in io) A A' r to
+pub record Bounds (pages : Pages) (p q : Pen) (i : ℕ) : Type 0 where
+  pub told : (w : Coded node_between (nodes_of pages) i) → Trailed w.whole pages p q
 
 -- no reading has more records: 8 for each token and the end (`Few` of the reader)
 abbrev pub MOST : ℕ

@@ -8,23 +8,22 @@ use lib.ListN.{length}
 use native.Mathlib.Omega.{arith}
 use Rattle.writer.proofs.Calls.{counted, walks_short, walks_whole, spells_in}
 use Rattle.descent.proofs.Borrowed.{none_left}
-use Rattle.kinds.proofs.StrengthTable.{length_strengths}
 use Rattle.writer.proofs.walks.Goals as goal
 
 pub walk-count-requires : goal.walk-count-requires
-walk-count-requires c = (c.requires.0, coded c.requires.1 (query_is c.requires.1))
+walk-count-requires c = coded c.requires.0 (query_is c.requires.0)
 
 pub overflow_sub-count : goal.overflow_sub-count
-overflow_sub-count c = let k = counted c.requires.2 c.walk-count.ensures c.requires.1 in omega (arith, k)
+overflow_sub-count c = let k = counted c.requires.1 c.walk-count.ensures c.requires.0 in omega (arith, k)
 
 pub returns-then-need-out_kinds : goal.returns-then-need-out_kinds
-returns-then-need-out_kinds c = (subst⁻¹ (λ (z : List ℕ). Walks c.args.nodes.now c.args.records c.args.out_kinds.now c.args.out_texts.now 10 (1048576 - c.walk-count.result) z c.args.out_texts.now) (ap (λ z. z ++ c.args.out_kinds.now) (none_left c.walk-count.new.out c.walk-count.auto.out)) (walks_short c.requires.2 c.walk-count.ensures refl c.requires.3 (let k = ap length (ap (λ z. z ++ c.args.out_kinds.now) (none_left c.walk-count.new.out c.walk-count.auto.out)) in omega (arith, k, c.if-need-out_kinds.true))), omega arith)
+returns-then-need-out_kinds c = (subst⁻¹ (λ (z : List ℕ). Walks c.args.nodes.now c.args.records c.args.out_kinds.now c.args.out_texts.now 10 (1048576 - c.walk-count.result) z c.args.out_texts.now) (ap (λ z. z ++ c.args.out_kinds.now) (none_left c.walk-count.new.out c.walk-count.auto.out)) (walks_short c.requires.1 c.walk-count.ensures refl c.requires.2 (let k = ap length (ap (λ z. z ++ c.args.out_kinds.now) (none_left c.walk-count.new.out c.walk-count.auto.out)) in omega (arith, k, c.if-need-out_kinds.true))), omega arith)
 
 pub walk-requires : goal.walk-requires
-walk-requires c = (c.requires.0, coded c.requires.1 (query_is c.requires.1))
+walk-requires c = coded c.requires.0 (query_is c.requires.0)
 
 pub walk-requires-2 : goal.walk-requires-2
-walk-requires-2 c = (c.requires.0, coded c.requires.1 (query_is c.requires.1))
+walk-requires-2 c = coded c.requires.0 (query_is c.requires.0)
 
 pub returns : goal.returns
-returns c = (walks_whole c.requires.2 c.walk-count.ensures refl c.requires.3 (let k = ap length (ap (λ z. z ++ c.args.out_kinds.now) (none_left c.walk-count.new.out c.walk-count.auto.out)) in omega (arith, k, c.if-need-out_kinds.false)) refl (spells_in (ap (λ z. z ++ c.args.out_kinds.now) (none_left c.walk-count.new.out c.walk-count.auto.out)) c.walk.ensures) (let k = ap length c.requires.0 in let l = length_strengths in omega (arith, k, l)) c.walk-2.ensures, tt)
+returns c = (walks_whole c.requires.1 c.walk-count.ensures refl c.requires.2 (let k = ap length (ap (λ z. z ++ c.args.out_kinds.now) (none_left c.walk-count.new.out c.walk-count.auto.out)) in omega (arith, k, c.if-need-out_kinds.false)) (spells_in (ap (λ z. z ++ c.args.out_kinds.now) (none_left c.walk-count.new.out c.walk-count.auto.out)) c.walk.ensures) c.walk-2.ensures, tt)

@@ -15,13 +15,13 @@ pub returns-in_err-records : goal.returns-in_err-records
 returns-in_err-records c =
     let p = err_from_is_err_and c.from_residual.result c.from_residual.ensures.1 in
     subst⁻¹ (λ z. Writes c.args.kinds.now c.args.texts.now c.args.nodes.now c.args.out_kinds.now c.args.out_texts.now (number z) (place z) c.read.new.nodes c.args.out_kinds.now c.args.out_texts.now × Plain z)
-        (p.1 ∙ ap Err p.2) (writes_refused c.if-out_kinds-out_texts.false c.in_err-records.ensures.0 c.in_err-records.ensures.2, c.in_err-records.ensures.2)
+    (p.1 ∙ ap Err p.2) (writes_refused c.if-out_kinds-out_texts.false c.in_err-records.ensures.0 c.in_err-records.ensures.2, c.in_err-records.ensures.2)
 
 pub overflow_cast-records : goal.overflow_cast-records
 overflow_cast-records c = let k = few_records c.in_ok-records.ensures.0 c.in_ok-records.ensures.1 in omega (arith, k)
 
 pub walks-requires : goal.walks-requires
-walks-requires c = (c.strengths-table.ensures, whole_read c.in_ok-records.ensures.0, few_records c.in_ok-records.ensures.0 c.in_ok-records.ensures.1, c.if-out_kinds-out_texts.false)
+walks-requires c = (whole_read c.in_ok-records.ensures.0, few_records c.in_ok-records.ensures.0 c.in_ok-records.ensures.1, c.if-out_kinds-out_texts.false)
 
 pub returns : goal.returns
 returns c = (c.walks.ensures.0 c.args.kinds.now c.args.texts.now c.args.nodes.now c.in_ok-records.ensures.0, c.walks.ensures.1)

@@ -1,9 +1,0 @@
-use Rattle.writer.proofs.Said.{is_absent, is_there, schema_none, schema_some}
-use Rattle.scribe.proofs.Tokens.{nothing_put, ◌after◌, puts_as}
-use Rattle.writer.proofs.schema.Goals as goal
-
-pub returns-then-code-eq-ABSENT : goal.returns-then-code-eq-ABSENT
-returns-then-code-eq-ABSENT c = record { told = λ m. puts_as (schema_none m (is_absent m c.code.ensures c.if-code-eq-ABSENT.true)) nothing_put }
-
-pub returns : goal.returns
-returns c = record { told = λ m. let k = schema_some m (is_there m c.code.ensures c.if-code-eq-ABSENT.false) in puts_as k.1 (c.name.ensures.told k.0 after c.word-d.ensures) }

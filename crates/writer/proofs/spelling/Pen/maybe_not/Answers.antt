@@ -1,0 +1,5 @@
+use Rattle.writer.proofs.Pens.{◌after◌}
+use Rattle.writer.proofs.spelling.Pen.maybe_not.Goals as goal
+
+pub returns : goal.returns
+returns c = c.word_if.ensures after c.word.ensures
