@@ -9,7 +9,7 @@ ghost use Rattle.std.specs.Prelude.{◌≡◌, ◌≤◌, min, length};
 ghost use Rattle.io.specs.Counts.{IsPrefixLen};
 ghost use Rattle.report.specs.Digests.{mixed_of};
 
-pub use output::{BLOCK, byte, bytes, flush, number};
+pub use output::{BLOCK, Output};
 pub use table::{changed, clear, digest};
 
 const MODULUS: u64 = 4294967296;
