@@ -1,6 +1,6 @@
 // Output, gathered in a block and written when it is full. A write that fails is passed over, so that nothing here
 // fails.
-ghost use Rattle.std.specs.Prelude.{◌≡◌, ◌+◌};
+ghost use Rattle.std.specs.Prelude.{◌≡◌, ◌+◌, IsOk};
 ghost use Rattle.report.specs.Blocks.{place_in, block_with, waiting_after, block_after, Shows};
 
 use std::fmt;
@@ -66,7 +66,13 @@ impl<'a, P: Print> Output<'a, P> {
 }
 
 impl<'a, P: Print> fmt::Write for Output<'a, P> {
-    fn write_str(&mut self, s: &str) -> fmt::Result {
+    ghost write_str_gives = { λ old s new. (new.waiting ≡ waiting_after old.waiting s) × (new.block ≡ block_after old.block old.waiting s) };
+
+    // Never fails.
+    fn write_str(&mut self, s: &str) -> fmt::Result
+        ensures ok { IsOk result → (self.new.waiting ≡ waiting_after self.old.waiting s.now) × (self.new.block ≡ block_after self.old.block self.old.waiting s.now) }
+        ensures never_fails { IsOk result }
+    {
         self.bytes(s.as_bytes());
         Ok(())
     }
