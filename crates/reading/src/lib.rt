@@ -21,9 +21,8 @@ pub struct Reading {
     pub place: usize,
     // How many numbers of the table are the records.
     pub used: usize,
-    // Whether all numbers beyond are still clear; else the first that is not.
-    pub kept: bool,
-    pub changed: usize,
+    // The first number beyond that is not clear, if there is one.
+    pub changed: Option<usize>,
 }
 
 // No reading yet.
@@ -34,8 +33,7 @@ pub fn none() -> Reading
         number: 0,
         place: 0,
         used: 0,
-        kept: true,
-        changed: 0,
+        changed: None,
     }
 }
 
@@ -53,19 +51,17 @@ pub fn left(got: Answer, nodes: &[u32]) -> Reading
 fn numbers(nodes: &[u32], count: usize) -> usize
     ensures { result ≡ numbers_of nodes.now count }
 {
-    report::least(count, nodes.len() / WIDTH) * WIDTH
+    count.min(nodes.len() / WIDTH) * WIDTH
 }
 
 fn beyond(number: u32, place: usize, nodes: &[u32], used: usize) -> Reading
     ensures { Told number place used nodes.now result }
 {
-    let changed = report::changed(nodes, used);
     Reading {
         number,
         place,
         used,
-        kept: changed == nodes.len(),
-        changed,
+        changed: report::changed(nodes, used),
     }
 }
 
@@ -90,9 +86,6 @@ pub fn of_line<'a>(line: Line, kinds: &'a [u32], texts: &'a [u32], nodes: &mut [
 pub fn clear(r: Reading, nodes: &mut [u32])
     ensures { Cleared nodes.old (to_clear r nodes.old) nodes.new }
 {
-    if r.kept {
-        report::clear(nodes, r.used);
-    } else {
-        report::clear(nodes, nodes.len());
-    }
+    let count = r.changed.map_or(r.used, |_| nodes.len());
+    report::clear(nodes, count);
 }

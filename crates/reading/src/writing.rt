@@ -34,13 +34,13 @@ fn beyond<'a>(
 ) -> Writing
     ensures { Tells number place used out_kinds.now out_texts.now result }
 {
-    let k = report::changed(out_kinds, used);
-    let t = report::changed(out_texts, used);
+    let kind = report::changed(out_kinds, used);
+    let text = report::changed(out_texts, used);
     Writing {
         number,
         place,
         used,
-        kept: k == out_kinds.len() && t == out_texts.len(),
+        kept: kind.is_none() && text.is_none(),
     }
 }
 

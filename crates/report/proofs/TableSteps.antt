@@ -6,7 +6,7 @@ use lib.ListN.{get_or}
 use Rattle.std.proofs.lemmas.List.{get_or-drop, get_or-take}
 use Rattle.std.specs.List.{slice_range, AllWithin, HoldsAt}
 use Rattle.std.specs.Option.{MatchOption}
-use Rattle.report.specs.Tables.{ClearBelow, FirstChanged}
+use Rattle.report.specs.Tables.{ClearBelow, Changed}
 
 -- where the bits of two numbers united are none, neither has any
 none_united : (a b : ℕ) → bit_or a b ≡ 0 → (a ≡ 0) × (b ≡ 0)
@@ -33,34 +33,42 @@ module _ (nodes tail : List ℕ) (from : ℕ) (is : tail ≡ slice_range nodes f
       ∙ (get_or-take (length nodes - from) _ (k - from) 0 (omega arith)
       ∙ (get_or-drop from nodes (k - from) 0 ∙ ap (λ (j : ℕ). get_or nodes j 0) back))
 
-  pub first_none : (length tail + from ≡ length nodes) → ((k : ℕ) → k < length tail → get_or tail k 0 ≡ 0) → FirstChanged nodes from (length nodes)
+  pub first_none : (length tail + from ≡ length nodes) → ((k : ℕ) → k < length tail → get_or tail k 0 ≡ 0) → Changed nodes from None
   first_none long clear =
       record {
-        within = omega arith;
-        clear = λ k below above. sym (there k above below) ∙ clear (k - from) (omega arith);
-        changed = λ l. omega arith;
+        first =
+            record {
+              within = omega arith;
+              clear = λ k below above. sym (there k above below) ∙ clear (k - from) (omega arith);
+              changed = λ l. omega arith;
+            };
+        within = tt;
       }
 
   pub first_at : (length tail + from ≡ length nodes) → (i : ℕ) → i < length tail → (get_or tail i 0 ≡ 0 → ⊥) → ((k : ℕ) → k < i → get_or tail k 0 ≡ 0)
-      → FirstChanged nodes from (from + i)
+      → Changed nodes from (Some (from + i))
   first_at long i below set clear =
       record {
+        first =
+            record {
+              within = omega arith;
+              clear = λ k low above. sym (there k above (omega arith)) ∙ clear (k - from) (omega arith);
+              changed =
+                  λ l.
+                  let back : from + i - from ≡ i = omega arith in
+                  (omega arith, λ e. set (sym (ap (λ (j : ℕ). get_or tail j 0) back) ∙ (there (from + i) (omega arith) l ∙ e)));
+            };
         within = omega arith;
-        clear = λ k low above. sym (there k above (omega arith)) ∙ clear (k - from) (omega arith);
-        changed =
-            λ l.
-            let back : from + i - from ≡ i = omega arith in
-            (omega arith, λ e. set (sym (ap (λ (j : ℕ). get_or tail j 0) back) ∙ (there (from + i) (omega arith) l ∙ e)));
       }
 
   -- what a search of the end for a number that is not 0 found
   abbrev pub Found : Option ℕ → Type 0
   Found r = MatchOption r (AllWithin (λ n. n ≡ 0) tail 0 (length tail)) (λ i. (i < length tail) × HoldsAt (λ n. n ≡ 0 → ⊥) tail i × AllWithin (λ n. n ≡ 0) tail 0 i)
 
-  pub none_found : (length tail + from ≡ length nodes) → (r : Option ℕ) → r ≡ None → Found r → FirstChanged nodes from (length nodes)
+  pub none_found : (length tail + from ≡ length nodes) → (r : Option ℕ) → r ≡ None → Found r → Changed nodes from None
   none_found long r e found =
       let clear : Found None = subst Found e found in first_none long (λ k below. clear k 0 (omega arith) below)
 
-  pub one_found : (length tail + from ≡ length nodes) → (r : Option ℕ) (i : ℕ) → r ≡ Some i → Found r → FirstChanged nodes from (from + i)
+  pub one_found : (length tail + from ≡ length nodes) → (r : Option ℕ) (i : ℕ) → r ≡ Some i → Found r → Changed nodes from (Some (from + i))
   one_found long r i e found =
       let at : Found (Some i) = subst Found e found in first_at long i at.0 (at.1 0) (λ k below. at.2 k 0 (omega arith) below)

@@ -1,7 +1,7 @@
 // A node table that is to be clear beyond a reading.
 ghost use Rattle.std.specs.Prelude.{◌≡◌, ◌<◌, IfSome, true, length, take, unwrap_or};
 ghost use Rattle.report.specs.Digests.{digest_of};
-ghost use Rattle.report.specs.Tables.{Cleared, ClearBelow, FirstChanged};
+ghost use Rattle.report.specs.Tables.{Cleared, ClearBelow, Changed};
 
 use crate::{mixed, within};
 
@@ -15,8 +15,7 @@ pub fn clear(nodes: &mut [u32], count: usize)
 
 // The first number from `from` on that is not 0.
 pub fn changed(nodes: &[u32], from: usize) -> Option<usize>
-    ensures first { FirstChanged nodes.now from (unwrap_or result (length nodes.now)) }
-    ensures within { IfSome result (λ i. i < length nodes.now) }
+    ensures { Changed nodes.now from result }
 {
     let tail = nodes.get(from..)?;
     if is_clear(tail) {
