@@ -31,7 +31,7 @@ struct Now {
 
 fn begun(row: u64, waiting: usize) -> Now {
     Now {
-        line: lines::begun(),
+        line: Line::new(),
         row,
         last: 0,
         before: 0,
@@ -66,7 +66,7 @@ fn misread(
     let named = bytes(out, block, head, b", byte ");
     let placed = number(out, block, named, line.column);
     let parted = bytes(out, block, placed, b": ");
-    let end = unread::reason(out, block, parted, m, lines::is_room(line));
+    let end = unread::reason(out, block, parted, m, line.is_room());
     byte(out, block, end, b'\n')
 }
 
@@ -203,7 +203,7 @@ fn write<'a>(
     if aloud {
         return in_words(out, block, waiting, row, line, r, kinds, texts, nodes);
     }
-    if lines::is_room(line) {
+    if line.is_room() {
         return in_short(out, block, waiting, line, r, kinds, texts, nodes);
     }
     in_full(out, block, waiting, line, r, kinds, texts, nodes)
@@ -241,15 +241,16 @@ fn ended<'a>(
     aloud: bool,
 ) -> usize {
     let taken = now.line;
-    let line = lines::ended(taken);
-    if lines::is_wrong(taken) {
+    let mut line = taken;
+    line.end();
+    if taken.is_wrong() {
         let m = Misfit {
             byte: now.last,
             before: now.before,
         };
         return unreadable(out, errors, block, now.waiting, now.row, line, m, aloud);
     }
-    if lines::is_wrong(line) {
+    if line.is_wrong() {
         let m = Misfit {
             byte: b'\n',
             before: now.last,
@@ -271,12 +272,13 @@ fn ended<'a>(
 
 // A byte of a line; after one that did not fit no other counts.
 fn taken(old: Now, b: u8, kinds: &mut [u32], texts: &mut [u32]) -> Now {
-    let line = old.line;
-    if lines::is_wrong(line) {
+    let mut line = old.line;
+    if line.is_wrong() {
         return old;
     }
+    line.take(b, kinds, texts);
     Now {
-        line: lines::taken(line, b, kinds, texts),
+        line,
         row: old.row,
         last: b,
         before: old.last,
