@@ -2,7 +2,7 @@
 --
 --     kind[.text] kind[.text] ...
 --     table=N outk=N outt=N kinds: K K .. texts: T T ..
-use Rattle.std.specs.Prelude.{ℕ, ◌+◌, ◌%◌, ◌^◌, Bool, true, false, cond, not, ◌&&◌, ◌||◌, Option, Some, None, List, length, ◌==◌, nat_le, nat_lt, slice_get}
+use Rattle.std.specs.Prelude.{ℕ, ◌+◌, ◌%◌, ◌^◌, Bool, true, false, if◌then◌else◌, not, ◌&&◌, ◌||◌, Option, Some, None, List, length, ◌==◌, nat_le, nat_lt, slice_get}
 use Rattle.lines.specs.declared.Line.{Line}
 use Rattle.lines.specs.declared.state.State.{State}
 use Rattle.lines.specs.declared.state.State.TheVariants.{Wrong, Start, Gap, Kind, Dot, Text, Equals, Size, Colon, Between, Item}
@@ -53,7 +53,7 @@ is_room l = nat_lt 0 l.spelled
 
 -- a size that the second form asks for; the first has the largest
 abbrev pub size_of : Line → ℕ → ℕ → ℕ
-size_of l asked most = cond (is_room l) asked most
+size_of l asked most = if is_room l then asked else most
 
 -- the sizes of the node table and of the writer's output that it asks for
 abbrev pub table_of : Line → ℕ
@@ -103,11 +103,11 @@ of_texts s spelled = false
 
 -- how many kinds and text numbers it is, when it begins: a token has one of each
 abbrev pub new_kinds : State → ℕ → ℕ
-new_kinds s spelled = cond (of_kinds s spelled) 1 0
+new_kinds s spelled = if of_kinds s spelled then 1 else 0
 
 abbrev pub new_texts : State → ℕ → ℕ
 new_texts Kind spelled = 1
-new_texts s spelled = cond (of_texts s spelled) 1 0
+new_texts s spelled = if of_texts s spelled then 1 else 0
 
 -- a number begins, in state s
 abbrev pub in_number : State → Line → Line
@@ -124,11 +124,11 @@ abbrev pub has_room : State → Line → Bool
 has_room s l = nat_le (l.kinds + new_kinds s l.spelled) TOKENS && nat_le (l.texts + new_texts s l.spelled) TOKENS
 
 abbrev pub entered : State → Line → Line
-entered s l = cond (has_room s l) (in_number s l) (wrong_line l)
+entered s l = if has_room s l then in_number s l else wrong_line l
 
 -- the largest that the number may be that the line is in
 abbrev pub most : Line → ℕ
-most l = cond (is_size l.state) (cond (l.spelled == AFTER_TABLE) TABLE OUTPUT) U32_MAX
+most l = if is_size l.state then (if l.spelled == AFTER_TABLE then TABLE else OUTPUT) else U32_MAX
 
 -- the number that the line is in is the size that this word asks for
 abbrev pub sizes : ℕ → Line → Bool
@@ -139,9 +139,9 @@ abbrev pub numbered : ℕ → Line → Line
 numbered n l =
     record l {
       number = n;
-      table = cond (sizes AFTER_TABLE l) n l.table;
-      out_kinds = cond (sizes AFTER_OUTK l) n l.out_kinds;
-      out_texts = cond (sizes AFTER_OUTT l) n l.out_texts;
+      table = if sizes AFTER_TABLE l then n else l.table;
+      out_kinds = if sizes AFTER_OUTK l then n else l.out_kinds;
+      out_texts = if sizes AFTER_OUTT l then n else l.out_texts;
     }
 
 abbrev pub longer : Option ℕ → Line → Line
@@ -149,7 +149,7 @@ longer (Some n) l = numbered n l
 longer None l = wrong_line l
 
 abbrev pub grown : Line → ℕ → Line
-grown l d = cond (is_wrong l) l (longer (with_digit l.number d (most l)) l)
+grown l d = if is_wrong l then l else longer (with_digit l.number d (most l)) l
 
 -- a byte of a word is behind, in state s
 abbrev pub spelt : State → Line → Line
@@ -187,10 +187,10 @@ abbrev pub on_digit : Line → ℕ → Line
 on_digit l d = grown (begun_in l.state l) d
 
 abbrev pub spelt_by : Line → ℕ → Line
-spelt_by l b = cond (is_next l b) (spelt (after_letter b) l) (wrong_line l)
+spelt_by l b = if is_next l b then spelt (after_letter b) l else wrong_line l
 
 abbrev pub on_letter : Line → ℕ → Line
-on_letter l b = cond (before_letter l.state) (spelt_by l b) (wrong_line l)
+on_letter l b = if before_letter l.state then spelt_by l b else wrong_line l
 
 abbrev pub on_other : Option ℕ → Line → ℕ → Line
 on_other (Some d) l b = on_digit l d
@@ -198,26 +198,26 @@ on_other None l b = on_letter l b
 
 abbrev pub on_byte : Line → ℕ → Line
 on_byte l b =
-    cond (b == BLANK_BYTE) (on_blank l)
-    (cond (b == DOT_BYTE) (on_dot l)
-    (on_other (digit_of b) l b))
+    if b == BLANK_BYTE then on_blank l
+    else (if b == DOT_BYTE then on_dot l
+    else on_other (digit_of b) l b)
 
 -- the line with a byte more; one that is wrong stays as it is
 abbrev pub line_with : Line → ℕ → Line
-line_with l b = cond (is_wrong l) l (on_byte (counted l) b)
+line_with l b = if is_wrong l then l else on_byte (counted l) b
 
 -- the line at its end: wrong, just after its last byte, where it is cut short
 abbrev pub ended_line : Line → Line
-ended_line l = cond (is_wrong l || may_end l) l (wrong_line (counted l))
+ended_line l = if is_wrong l || may_end l then l else wrong_line (counted l)
 
 -- ── the lists: the number that the line is in is the last of its list; a token's text number is 0 until it comes ──
 abbrev pub kinds_with : Line → List ℕ → List ℕ
-kinds_with l ks = cond (of_kinds l.state l.spelled) (last_set ks l.kinds l.number) ks
+kinds_with l ks = if of_kinds l.state l.spelled then last_set ks l.kinds l.number else ks
 
 abbrev pub texts_in : State → Line → List ℕ → List ℕ
 texts_in Kind l ts = last_set ts l.texts 0
 texts_in Text l ts = last_set ts l.texts l.number
-texts_in s l ts = cond (of_texts s l.spelled) (last_set ts l.texts l.number) ts
+texts_in s l ts = if of_texts s l.spelled then last_set ts l.texts l.number else ts
 
 abbrev pub texts_with : Line → List ℕ → List ℕ
 texts_with l ts = texts_in l.state l ts

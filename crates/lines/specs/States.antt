@@ -1,5 +1,5 @@
 -- Where a line stands, and where a byte takes it from there.
-use Rattle.std.specs.Prelude.{ℕ, Bool, true, false, cond, ◌==◌}
+use Rattle.std.specs.Prelude.{ℕ, Bool, true, false, if◌then◌else◌, ◌==◌}
 use Rattle.lines.specs.Bytes.{EQUALS_BYTE, COLON_BYTE}
 use Rattle.lines.specs.declared.state.State.{State}
 use Rattle.lines.specs.declared.state.State.TheVariants.{Wrong, Start, Gap, Kind, Dot, Text, Word, Equals, Size, Space, Colon, Between, Item}
@@ -42,4 +42,4 @@ before_letter s = false
 
 -- a byte of a word; `=` and `:` end it
 abbrev pub after_letter : ℕ → State
-after_letter b = cond (b == EQUALS_BYTE) Equals (cond (b == COLON_BYTE) Colon Word)
+after_letter b = if b == EQUALS_BYTE then Equals else (if b == COLON_BYTE then Colon else Word)

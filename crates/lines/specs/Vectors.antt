@@ -5,7 +5,7 @@
 --     => R number place W number place
 --
 -- Its numbers are told apart, up to the second colon.
-use Rattle.std.specs.Prelude.{ℕ, ◌+◌, ◌%◌, ◌^◌, Bool, true, false, cond, ◌||◌, Option, Some, None, is_some, unwrap_or, List, ◌==◌}
+use Rattle.std.specs.Prelude.{ℕ, ◌+◌, ◌%◌, ◌^◌, Bool, true, false, if◌then◌else◌, ◌||◌, Option, Some, None, is_some, unwrap_or, List, ◌==◌}
 use Rattle.kinds.specs.Lists.{among}
 use Rattle.lines.specs.declared.vectors.Expected.{Expected}
 use Rattle.lines.specs.declared.vectors.Part.{Part}
@@ -42,7 +42,7 @@ with_figure e d = told_longer (with_digit (so_far e) d U32_MAX) e
 
 -- any other byte ends the number that the answer is in
 abbrev pub ended_number : Expected → Expected
-ended_number e = record e { inside = None; count = cond (is_some e.inside) ((e.count + 1) % 2 ^ 64) e.count }
+ended_number e = record e { inside = None; count = if is_some e.inside then (e.count + 1) % 2 ^ 64 else e.count }
 
 -- .. and is a separator, or wrong; the second colon closes the numbers
 abbrev pub after_colon : Part → Part
@@ -53,8 +53,8 @@ after_colon Writing = Writing
 abbrev pub separated : Expected → ℕ → Expected
 separated e b =
     record e {
-      part = cond (b == COLON_BYTE) (after_colon e.part) e.part;
-      wrong = cond (among b separators) e.wrong true;
+      part = if b == COLON_BYTE then after_colon e.part else e.part;
+      wrong = if among b separators then e.wrong else true;
     }
 
 abbrev pub told_by : Option ℕ → Expected → ℕ → Expected
@@ -63,8 +63,8 @@ told_by None e b = separated (ended_number e) b
 
 -- the answer with a byte more; behind the second colon nothing is told
 abbrev pub told_with : Expected → ℕ → Expected
-told_with e b = cond (has_writing e) e (told_by (digit_of b) e b)
+told_with e b = if has_writing e then e else told_by (digit_of b) e b
 
 -- the number that the byte ends, if it ends one
 abbrev pub number_told : Expected → ℕ → Option ℕ
-number_told e b = cond (has_writing e || is_some (digit_of b)) None e.inside
+number_told e b = if has_writing e || is_some (digit_of b) then None else e.inside

@@ -29,7 +29,8 @@ const OUTPUT: u32 = 8192;
 // The longest node table that a line may ask for.
 pub const TABLE: u32 = 65536;
 
-// The words of the second form. A line has `spelled` of their bytes behind it.
+// The words of the second form, and how many of their bytes are behind after each: numbers, not an enum of words, for a
+// line is between two letters as well.
 const WORDS: &[u8] = b"table=outk=outt=kinds:texts:";
 
 const AFTER_TABLE: usize = b"table=".len();
@@ -190,7 +191,7 @@ impl Line {
     fn enter(&mut self, state: State)
         ensures { self.new ≡ forms.entered state self.old }
     {
-        let (kinds, texts) = entries(state, self.spelled);
+        let (kinds, texts) = self.entries(state);
         if self.kinds > TOKENS - kinds || self.texts > TOKENS - texts {
             self.fail();
             return;
@@ -199,6 +200,21 @@ impl Line {
         self.number = 0;
         self.kinds += kinds;
         self.texts += texts;
+    }
+
+    // How many kinds and text numbers a number is that begins in that state: a token has one of each, a number of a list
+    // is one of the two.
+    fn entries(&self, state: State) -> (usize, usize)
+        ensures kinds { result.0 ≡ forms.new_kinds state self.now.spelled }
+        ensures texts { result.1 ≡ forms.new_texts state self.now.spelled }
+        ensures upper_bound { (result.0 ≤ 1) × (result.1 ≤ 1) }
+    {
+        match state {
+            State::Kind => (1, 1),
+            State::Item if self.spelled == AFTER_KINDS => (1, 0),
+            State::Item => (0, 1),
+            _ => (0, 0),
+        }
     }
 
     // A digit more.
@@ -239,6 +255,13 @@ impl Line {
         }
     }
 
+    // The byte of the words that is to come.
+    fn next_letter(&self) -> Option<u8>
+        ensures { result ≡ slice_get forms.WORDS self.now.spelled }
+    {
+        WORDS.get(self.spelled).copied()
+    }
+
     // A byte of a word.
     fn letter(&mut self, byte: u8)
         ensures { self.new ≡ forms.on_letter self.old byte }
@@ -247,12 +270,6 @@ impl Line {
             State::Start | State::Word | State::Space | State::Between => self.spell(byte),
             _ => self.fail(),
         }
-    }
-
-    fn next_letter(&self) -> Option<u8>
-        ensures { result ≡ slice_get forms.WORDS self.now.spelled }
-    {
-        WORDS.get(self.spelled).copied()
     }
 
     fn spell(&mut self, byte: u8)
@@ -281,21 +298,6 @@ impl Line {
             State::Item => put(texts, self.texts, self.number),
             _ => {}
         }
-    }
-}
-
-// How many kinds and text numbers a number is, in that state: a token has one of each, a number of a list is one of the
-// two.
-fn entries(state: State, spelled: usize) -> (usize, usize)
-    ensures kinds { result.0 ≡ forms.new_kinds state spelled }
-    ensures texts { result.1 ≡ forms.new_texts state spelled }
-    ensures upper_bound { (result.0 ≤ 1) × (result.1 ≤ 1) }
-{
-    match state {
-        State::Kind => (1, 1),
-        State::Item if spelled == AFTER_KINDS => (1, 0),
-        State::Item => (0, 1),
-        _ => (0, 0),
     }
 }
 
