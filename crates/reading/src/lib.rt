@@ -78,7 +78,7 @@ pub fn of_line<'a>(line: Line, kinds: &'a [u32], texts: &'a [u32], nodes: &mut [
 {
     let k = report::within(line.kinds, kinds);
     let t = report::within(line.texts, texts);
-    let n = report::within(lines::table(line) as usize, nodes);
+    let n = report::within(line.table() as usize, nodes);
     read(&kinds[..k], &texts[..t], &mut nodes[..n])
 }
 

@@ -58,9 +58,9 @@ pub fn written<'a>(
 {
     let k = report::within(line.kinds, kinds);
     let t = report::within(line.texts, texts);
-    let n = report::within(lines::table(line) as usize, nodes);
-    let a = report::within(lines::out_kinds(line) as usize, out_kinds);
-    let b = report::within(lines::out_texts(line) as usize, out_texts);
+    let n = report::within(line.table() as usize, nodes);
+    let a = report::within(line.out_kinds() as usize, out_kinds);
+    let b = report::within(line.out_texts() as usize, out_texts);
     let got = writer::write(
         &kinds[..k],
         &texts[..t],
