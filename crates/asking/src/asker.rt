@@ -1,9 +1,9 @@
 // Takes lines, a byte at a time, and answers each when its end has come.
-use crate::command::Command;
 use crate::refusals::{Many, Refused};
 use crate::tree;
 use crate::unread::Misfit;
 use crate::writing::{self, Form};
+use lines::Command;
 use reading::{Reading, WIDTH};
 use report::Output;
 use std::fmt::Write;

@@ -3,7 +3,6 @@
 #![tactic(auto)]
 
 mod asker;
-mod command;
 mod help;
 mod labels;
 mod names;
@@ -31,9 +30,12 @@ pub fn run(rt: &(impl Env + Input + Print), errors: &impl Print) -> io::Result<(
     let mut word = [0u8; 2];
     match rt.arg(1, &mut word) {
         Err(FillError::NotPresent) => return listen(rt, errors, Voice::Numbers),
-        Ok(n) if &word[..n] == b"-v" => return listen(rt, errors, Voice::Words),
-        Ok(n) if &word[..n] == b"-h" => help::tell(rt),
-        _ => help::point(errors),
+        Ok(n) => match &word[..n] {
+            b"-v" => return listen(rt, errors, Voice::Words),
+            b"-h" => help::tell(rt),
+            _ => help::point(errors),
+        },
+        Err(FillError::TooLong) => help::point(errors),
     }
     Ok(())
 }

@@ -3,12 +3,13 @@ use kinds::node;
 
 // Kinds, as document 01 has them, from 0 on. A table, not a `match`: one of 72 arms is past the check's limit.
 static KINDS: [&str; 72] = [
-    "no kind", "ID", "KWID", "STRING", "INDEXED", "JOIN_KW", "INTEGER", "FLOAT", "BLOB", "VARIABLE", "CTIME_KW", "NULL",
-    "LP", "RP", "COMMA", "DOT", "SEMI", "STAR", "PLUS", "MINUS", "SLASH", "REM", "CONCAT", "BITAND", "BITOR", "LSHIFT",
-    "RSHIFT", "BITNOT", "EQ", "NE", "LT", "LE", "GT", "GE", "AND", "OR", "NOT", "IS", "IN", "BETWEEN", "LIKE_KW",
-    "ISNULL", "NOTNULL", "COLLATE", "CASE", "WHEN", "THEN", "ELSE", "END", "CAST", "AS", "EXISTS", "SELECT", "VALUES",
-    "DISTINCT", "ALL", "FROM", "JOIN", "ON", "USING", "WHERE", "GROUP", "BY", "HAVING", "ORDER", "ASC", "DESC", "NULLS",
-    "FIRST", "LAST", "LIMIT", "OFFSET",
+    "no kind", "ID", "KWID", "STRING", "INDEXED", "JOIN_KW", "INTEGER", "FLOAT", "BLOB",
+    "VARIABLE", "CTIME_KW", "NULL", "LP", "RP", "COMMA", "DOT", "SEMI", "STAR", "PLUS", "MINUS",
+    "SLASH", "REM", "CONCAT", "BITAND", "BITOR", "LSHIFT", "RSHIFT", "BITNOT", "EQ", "NE", "LT",
+    "LE", "GT", "GE", "AND", "OR", "NOT", "IS", "IN", "BETWEEN", "LIKE_KW", "ISNULL", "NOTNULL",
+    "COLLATE", "CASE", "WHEN", "THEN", "ELSE", "END", "CAST", "AS", "EXISTS", "SELECT", "VALUES",
+    "DISTINCT", "ALL", "FROM", "JOIN", "ON", "USING", "WHERE", "GROUP", "BY", "HAVING", "ORDER",
+    "ASC", "DESC", "NULLS", "FIRST", "LAST", "LIMIT", "OFFSET",
 ];
 
 // Nothing where there is no such kind.

@@ -1,8 +1,7 @@
 // A refusal in words, from document 01's table, with the place of its token.
-use crate::command::Command;
 use crate::names;
 use kinds::{JOIN_KW, LIKE_KW};
-use lines::Line;
+use lines::{Command, Line};
 use reading::Reading;
 use std::fmt;
 
@@ -23,6 +22,7 @@ impl fmt::Display for Many {
 }
 
 // The refusal of a command.
+#[derive(Clone, Copy)]
 pub struct Refused<'a> {
     pub reading: Reading,
     pub command: &'a Command,
@@ -44,9 +44,13 @@ impl fmt::Display for Refused<'_> {
     }
 }
 
-fn lengths<W: fmt::Write>(f: &mut W, line: &Line) -> fmt::Result {
+fn lengths<W: fmt::Write>(f: &mut fmt::Formatter<W>, line: &Line) -> fmt::Result {
     if line.kinds == line.texts {
-        return write!(f, ": input over 4,096, it has {}", Many(line.kinds, "token"));
+        return write!(
+            f,
+            ": input over 4,096, it has {}",
+            Many(line.kinds, "token")
+        );
     }
     write!(
         f,
@@ -67,15 +71,32 @@ impl fmt::Display for Missing {
     fn fmt<W: fmt::Write>(&self, f: &mut fmt::Formatter<W>) -> fmt::Result {
         let place = self.place;
         match self.number {
-            4 => write!(f, ": the command ends too soon, after {}", Many(place, "token")),
-            9 => write!(f, ": the node table is too short for {}", Many(place, "record")),
-            _ => write!(f, ": the writer's output is too short for {}", Many(place, "token")),
+            4 => write!(
+                f,
+                ": the command ends too soon, after {}",
+                Many(place, "token")
+            ),
+            9 => write!(
+                f,
+                ": the node table is too short for {}",
+                Many(place, "record")
+            ),
+            _ => write!(
+                f,
+                ": the writer's output is too short for {}",
+                Many(place, "token")
+            ),
         }
     }
 }
 
 // The place is that of a token.
-fn token<W: fmt::Write>(f: &mut W, number: u32, place: usize, command: &Command) -> fmt::Result {
+fn token<W: fmt::Write>(
+    f: &mut fmt::Formatter<W>,
+    number: u32,
+    place: usize,
+    command: &Command,
+) -> fmt::Result {
     let kind = at(command.kinds(), place);
     match number {
         2 => unfit(f, kind, at(command.texts(), place)),
@@ -89,7 +110,7 @@ fn token<W: fmt::Write>(f: &mut W, number: u32, place: usize, command: &Command)
     }
 }
 
-fn unfit<W: fmt::Write>(f: &mut W, kind: u32, text: u32) -> fmt::Result {
+fn unfit<W: fmt::Write>(f: &mut fmt::Formatter<W>, kind: u32, text: u32) -> fmt::Result {
     match kind {
         JOIN_KW | LIKE_KW => write!(f, "{} can't have text number {text}", names::kind(kind)),
         _ => write!(f, "there is no kind {kind}"),

@@ -23,6 +23,7 @@ const ROOT: Seat = Seat {
 };
 
 // Records, the seat of each, and which of them is on each line.
+#[derive(Drop)]
 struct Tree<'a> {
     records: &'a [[u32; WIDTH]],
     seats: [Seat; RECORDS],

@@ -1,8 +1,8 @@
 // What the writer answers: the canonical writing in numbers or in words, or why there is none.
-use crate::command::Command;
 use crate::names::{join_word, like, operator};
 use crate::refusals::Missing;
 use kinds::{COMMA, DOT, ID, INDEXED, JOIN_KW, LIKE_KW, LP, RP};
+use lines::Command;
 use reading::Writing;
 use std::fmt;
 
@@ -79,11 +79,27 @@ fn none<W: fmt::Write>(out: &mut W, w: Writing) -> fmt::Result {
 }
 
 // The writer's answer to the command, in one of the forms; the table holds the reading, or is clear.
-pub fn tell<W: fmt::Write>(out: &mut W, command: &Command, nodes: &mut [u32], form: Form) -> fmt::Result {
+pub fn tell<W: fmt::Write>(
+    out: &mut W,
+    command: &Command,
+    nodes: &mut [u32],
+    form: Form,
+) -> fmt::Result {
     let mut out_kinds = [0u32; lines::TOKENS];
     let mut out_texts = [0u32; lines::TOKENS];
-    let w = reading::written(*command.line(), command.kinds(), command.texts(), nodes, &mut out_kinds, &mut out_texts);
-    let tokens = out_kinds.iter().copied().zip(out_texts.iter().copied()).take(w.used);
+    let w = reading::written(
+        *command.line(),
+        command.kinds(),
+        command.texts(),
+        nodes,
+        &mut out_kinds,
+        &mut out_texts,
+    );
+    let tokens = out_kinds
+        .iter()
+        .copied()
+        .zip(out_texts.iter().copied())
+        .take(w.used);
     if !w.kept {
         return writeln!(out, " ! output changed beyond the writing");
     }
