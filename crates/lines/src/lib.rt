@@ -305,6 +305,7 @@ impl Line {
 fn put(list: &mut [u32], count: usize, n: u32)
     ensures { list.new ≡ last_set list.old count n }
 {
+    // Not by `get_mut`: tried, and the proof did not close, for its contract says nothing of the element.
     if count > 0 && count <= list.len() {
         list[count - 1] = n;
     }
