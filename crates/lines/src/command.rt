@@ -4,6 +4,7 @@ ghost use Rattle.lines.specs.Commands.{no_command, begun_command, command_with, 
 
 use crate::{Line, TOKENS};
 
+// Two lists, not one of pairs: document 01 has the reader lent two.
 #[derive(Drop)]
 pub struct Command {
     line: Line,

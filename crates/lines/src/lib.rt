@@ -129,6 +129,7 @@ impl Line {
     }
 
     // One byte more, that is no line end; a number of a list goes into its list.
+    // The lists beside the line, of any length: what is promised of them may not change. `Command` has all in one.
     pub fn take(&mut self, byte: u8, kinds: &mut [u32], texts: &mut [u32])
         ensures value { self.new ≡ line_with self.old byte }
         ensures kinds_after { kinds.new ≡ kinds_with (line_with self.old byte) kinds.old }
@@ -305,6 +306,7 @@ impl Line {
 fn put(list: &mut [u32], count: usize, n: u32)
     ensures { list.new ≡ last_set list.old count n }
 {
+    // Not by `get_mut`: tried, and the proof did not close, for its contract says nothing of the element.
     if count > 0 && count <= list.len() {
         list[count - 1] = n;
     }
