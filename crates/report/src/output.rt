@@ -1,6 +1,6 @@
 // Output, gathered in a block and written when it is full. A write that fails is passed over, so that nothing here
 // fails.
-ghost use Rattle.std.specs.Prelude.{◌≡◌, ◌+◌, IsOk};
+ghost use Rattle.std.specs.Prelude.{◌≡◌, ◌+◌, IsOk, replicate};
 ghost use Rattle.report.specs.Blocks.{place_in, block_with, waiting_after, block_after, Shows};
 
 use std::fmt;
@@ -16,7 +16,9 @@ pub struct Output<'a, P: Print> {
 
 impl<'a, P: Print> Output<'a, P> {
     pub fn new(to: &'a P) -> Self
-        ensures { result.waiting ≡ 0 }
+        ensures to { result.to ≡ to.entry }
+        ensures block { result.block ≡ replicate 65536 0 }
+        ensures waiting { result.waiting ≡ 0 }
     {
         Output {
             to,
@@ -28,6 +30,7 @@ impl<'a, P: Print> Output<'a, P> {
     pub fn byte(&mut self, b: u8)
         ensures waiting { self.new.waiting ≡ place_in self.old.waiting + 1 }
         ensures block { self.new.block ≡ block_with self.old.block self.old.waiting b }
+        ensures to { self.new.to ≡ self.old.to }
     {
         if self.waiting >= BLOCK {
             self.flush();
@@ -39,6 +42,7 @@ impl<'a, P: Print> Output<'a, P> {
     pub fn bytes(&mut self, s: &[u8])
         ensures waiting { self.new.waiting ≡ waiting_after self.old.waiting s.now }
         ensures block { self.new.block ≡ block_after self.old.block self.old.waiting s.now }
+        ensures to { self.new.to ≡ self.old.to }
     {
         for b in s {
             self.byte(*b);
@@ -47,7 +51,8 @@ impl<'a, P: Print> Output<'a, P> {
 
     // The decimal digits of a number.
     pub fn number(&mut self, n: u64)
-        ensures { Shows self.old.block self.old.waiting n self.new.waiting self.new.block }
+        ensures shows { Shows self.old.block self.old.waiting n self.new.waiting self.new.block }
+        ensures to { self.new.to ≡ self.old.to }
     {
         let mut text = [0u8; 20];
         let k = io::decimal(n, &mut text);
@@ -58,6 +63,7 @@ impl<'a, P: Print> Output<'a, P> {
     pub fn flush(&mut self)
         ensures waiting { self.new.waiting ≡ 0 }
         ensures block { self.new.block ≡ self.old.block }
+        ensures to { self.new.to ≡ self.old.to }
     {
         let n = self.waiting.min(BLOCK);
         let _ = self.to.write_all(&self.block[..n]);
@@ -72,6 +78,7 @@ impl<'a, P: Print> fmt::Write for Output<'a, P> {
     fn write_str(&mut self, s: &str) -> fmt::Result
         ensures ok { IsOk result → (self.new.waiting ≡ waiting_after self.old.waiting s.now) × (self.new.block ≡ block_after self.old.block self.old.waiting s.now) }
         ensures never_fails { IsOk result }
+        ensures to { self.new.to ≡ self.old.to }
     {
         self.bytes(s.as_bytes());
         Ok(())

@@ -1,5 +1,5 @@
 // A node table that is to be clear beyond a reading.
-ghost use Rattle.std.specs.Prelude.{◌≡◌, ◌<◌, IfSome, true, length, take, unwrap_or};
+ghost use Rattle.std.specs.Prelude.{◌≡◌, true, length, take};
 ghost use Rattle.report.specs.Digests.{digest_of};
 ghost use Rattle.report.specs.Tables.{Cleared, ClearBelow, Changed};
 

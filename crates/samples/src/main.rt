@@ -34,7 +34,7 @@ fn show(out: &impl Print, name: &str, got: Answer, nodes: &[u32; PLACES]) -> Res
     number(out, r.number as u64)?;
     number(out, r.place as u64)?;
     number(out, report::digest(0, nodes, r.used))?;
-    if !r.kept {
+    if r.changed.is_some() {
         say(out, " and the table is changed beyond")?;
     }
     Ok(())

@@ -3,5 +3,5 @@
 use Rattle.report.proofs.BlockSteps.{shown}
 use Rattle.report.proofs.output.Output.number.Goals as goal
 
-pub returns : goal.returns
-returns g c = shown c.decimal-k.ensures.len c.decimal-k.ensures.digits c.bytes.ensures.waiting c.bytes.ensures.block
+pub returns-clause-shows : goal.returns-clause-shows
+returns-clause-shows g c = shown c.decimal-k.ensures.len c.decimal-k.ensures.digits c.bytes.ensures.waiting c.bytes.ensures.block
