@@ -1,4 +1,5 @@
-// Names of records and of their details, as document 01's table of the reading has them.
+// Names of records and of their details, as document 01's table of the reading has them. Codes and details are numbers,
+// not enums: a record is four numbers of the table that a caller lends, and document 01 tells them apart by ranges.
 use crate::names::{join_word, operator};
 use kinds::node;
 use std::fmt;
@@ -78,14 +79,8 @@ impl fmt::Display for Label {
                 f.write_str(direction(detail % node::UPPER))?;
                 f.write_str(nulls(detail / node::UPPER))
             }
-            node::ID..=node::CTIME => {
-                write!(f, " #{detail}{}", origin(code))?;
-                f.write_str(if code == node::JOIN_NAME {
-                    join_word(detail)
-                } else {
-                    ""
-                })
-            }
+            node::JOIN_NAME => write!(f, " #{detail} from JOIN_KW {}", join_word(detail)),
+            node::ID..=node::CTIME => write!(f, " #{detail}{}", origin(code)),
             node::PREFIX..=node::NULL_TEST => write!(f, " {}", operator(detail)),
             _ => Ok(()),
         }
@@ -153,7 +148,6 @@ fn origin(code: u32) -> &'static str {
     match code {
         node::STRING_NAME => " from STRING",
         node::INDEXED_NAME => " from INDEXED",
-        node::JOIN_NAME => " from JOIN_KW ",
         _ => "",
     }
 }

@@ -33,6 +33,7 @@ impl fmt::Display for Refused<'_> {
         let number = self.reading.number;
         let place = self.reading.place;
         write!(f, "refusal {number}")?;
+        // Numbers, as document 01 has them: a reading holds the reader's.
         match number {
             1 => lengths(f, self.command.line()),
             4 | 9 | 10 => f.write(Missing { number, place }),
@@ -117,24 +118,28 @@ fn unfit<W: fmt::Write>(f: &mut fmt::Formatter<W>, kind: u32, text: u32) -> fmt:
     }
 }
 
-// A word before a JOIN that means OUTER, and one that means INNER; 0 where there is none.
+// A word before a JOIN that means OUTER, and one that means INNER.
 #[derive(Clone, Copy)]
 struct Clash {
-    outer: u32,
-    inner: u32,
+    outer: Option<u32>,
+    inner: Option<u32>,
 }
 
 impl Clash {
     // Of the words before the JOIN at a place. A join word may also be a name, but only the first of those in a row, and
     // only where what stands before it asks for one.
     fn before(command: &Command, place: usize) -> Clash {
-        let mut clash = Clash { outer: 0, inner: 0 };
+        let mut clash = Clash {
+            outer: None,
+            inner: None,
+        };
         for distance in 1..4 {
-            let word = join_word(command, place, distance);
+            let Some(word) = join_word(command, place, distance) else {
+                break;
+            };
             match word {
-                words::NO_WORD => break,
-                words::CROSS | words::INNER => clash.inner = word,
-                words::FULL | words::LEFT | words::RIGHT | words::OUTER => clash.outer = word,
+                words::CROSS | words::INNER => clash.inner = Some(word),
+                words::FULL | words::LEFT | words::RIGHT | words::OUTER => clash.outer = Some(word),
                 _ => {}
             }
         }
@@ -145,28 +150,26 @@ impl Clash {
 // Flags are refused for a word that means INNER beside one that means OUTER, or for an OUTER of no side.
 impl fmt::Display for Clash {
     fn fmt<W: fmt::Write>(&self, f: &mut fmt::Formatter<W>) -> fmt::Result {
-        if self.outer == 0 || self.inner == 0 {
-            return f.write_str("OUTER goes only with LEFT, RIGHT or FULL");
+        match (self.outer, self.inner) {
+            (Some(outer), Some(inner)) => write!(
+                f,
+                "{} and {} don't go together",
+                names::join_word(outer),
+                names::join_word(inner)
+            ),
+            _ => f.write_str("OUTER goes only with LEFT, RIGHT or FULL"),
         }
-        write!(
-            f,
-            "{} and {} don't go together",
-            names::join_word(self.outer),
-            names::join_word(self.inner)
-        )
     }
 }
 
-// The join word so many places before JOIN, 0 where there is none.
-fn join_word(command: &Command, place: usize, distance: usize) -> u32 {
-    if place <= distance {
-        return words::NO_WORD;
-    }
-    let here = place - distance;
-    if at(command.kinds(), here) == JOIN_KW && is_after_source(at(command.kinds(), here - 1)) {
-        at(command.texts(), here)
+// The join word so many places before JOIN, if there is one.
+fn join_word(command: &Command, place: usize, distance: usize) -> Option<u32> {
+    let here = place.checked_sub(distance)?;
+    let before = here.checked_sub(1)?;
+    if at(command.kinds(), here) == JOIN_KW && is_after_source(at(command.kinds(), before)) {
+        Some(at(command.texts(), here)).filter(|word| *word != words::NO_WORD)
     } else {
-        words::NO_WORD
+        None
     }
 }
 

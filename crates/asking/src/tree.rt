@@ -22,7 +22,7 @@ const ROOT: Seat = Seat {
     part: Part::Plain,
 };
 
-// Records, the seat of each, and which of them is on each line.
+// Records, the seat of each, and which of them is on each line. Arrays and places in them, not boxes: fixed memory.
 #[derive(Drop)]
 struct Tree<'a> {
     records: &'a [[u32; WIDTH]],

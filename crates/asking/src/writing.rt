@@ -85,6 +85,7 @@ pub fn tell<W: fmt::Write>(
     nodes: &mut [u32],
     form: Form,
 ) -> fmt::Result {
+    // Two lists, as the writer takes them: its C interface has two.
     let mut out_kinds = [0u32; lines::TOKENS];
     let mut out_texts = [0u32; lines::TOKENS];
     let w = reading::written(
