@@ -1,7 +1,6 @@
 // What `ask -h` says: a screenful, at most 24 lines of 80.
 
-const TEXT: [u8; 1253] =
-    *b"ask reads SQL queries, given as tokens, one query a line, and answers each.
+const TEXT: &str = "ask reads SQL queries, given as tokens, one query a line, and answers each.
 Usage: ask [-v | -h] < LINES
 
 A line:   KIND[.TEXT] KIND[.TEXT] ..
@@ -28,10 +27,10 @@ The exit status is always 0: the answers say which lines were refused.
 ";
 
 pub fn tell(out: &impl Print) {
-    let _ = out.write_all(&TEXT);
+    let _ = out.print(TEXT);
 }
 
 // An argument that is none of ours.
 pub fn point(errors: &impl Print) {
-    let _ = errors.write_all(b"ask: the options are -v and -h; ask -h says more\n");
+    let _ = errors.println("ask: the options are -v and -h; ask -h says more");
 }

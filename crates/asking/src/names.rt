@@ -1,84 +1,78 @@
-// Names of kinds, join words and operators. A table of names has rows of equal width, filled up with dots. Each
-// function takes how many bytes of the block wait, and answers how many wait then.
-use report::{BLOCK, byte, bytes};
+// Names of kinds, join words and operators.
+use kinds::node;
 
-// Kinds, as document 01 has them, from 0 on.
-const KINDS: [u8; 576] =
-    *b"no kind.ID......KWID....STRING..INDEXED.JOIN_KW.INTEGER.FLOAT...BLOB....VARIABLE\
-    CTIME_KWNULL....LP......RP......COMMA...DOT.....SEMI....STAR....PLUS....MINUS...\
-    SLASH...REM.....CONCAT..BITAND..BITOR...LSHIFT..RSHIFT..BITNOT..EQ......NE......\
-    LT......LE......GT......GE......AND.....OR......NOT.....IS......IN......BETWEEN.\
-    LIKE_KW.ISNULL..NOTNULL.COLLATE.CASE....WHEN....THEN....ELSE....END.....CAST....\
-    AS......EXISTS..SELECT..VALUES..DISTINCTALL.....FROM....JOIN....ON......USING...\
-    WHERE...GROUP...BY......HAVING..ORDER...ASC.....DESC....NULLS...FIRST...LAST....\
-    LIMIT...OFFSET..";
+// Kinds, as document 01 has them, from 0 on. A table, not a `match`: one of 72 arms is past the check's limit.
+static KINDS: [&str; 72] = [
+    "no kind", "ID", "KWID", "STRING", "INDEXED", "JOIN_KW", "INTEGER", "FLOAT", "BLOB",
+    "VARIABLE", "CTIME_KW", "NULL", "LP", "RP", "COMMA", "DOT", "SEMI", "STAR", "PLUS", "MINUS",
+    "SLASH", "REM", "CONCAT", "BITAND", "BITOR", "LSHIFT", "RSHIFT", "BITNOT", "EQ", "NE", "LT",
+    "LE", "GT", "GE", "AND", "OR", "NOT", "IS", "IN", "BETWEEN", "LIKE_KW", "ISNULL", "NOTNULL",
+    "COLLATE", "CASE", "WHEN", "THEN", "ELSE", "END", "CAST", "AS", "EXISTS", "SELECT", "VALUES",
+    "DISTINCT", "ALL", "FROM", "JOIN", "ON", "USING", "WHERE", "GROUP", "BY", "HAVING", "ORDER",
+    "ASC", "DESC", "NULLS", "FIRST", "LAST", "LIMIT", "OFFSET",
+];
 
-// Join words by their text numbers, from 0 on.
-const WORDS: [u8; 56] = *b"a word.CROSS..FULL...INNER..LEFT...NATURALRIGHT..OUTER..";
-
-// Signs of the kinds from STAR to GE.
-const SIGNS: [u8; 34] = *b"*.+.-./.%.||&.|.<<>>~.=.<><.<=>.>=";
-
-fn at(table: &[u8], i: usize) -> u8 {
-    if i < table.len() { table[i] } else { b'.' }
+// Nothing where there is no such kind.
+pub fn kind(kind: u32) -> &'static str {
+    KINDS.get(kind as usize).copied().unwrap_or("")
 }
 
-// The row of a table of names that has so many bytes before it; nothing where there is none.
-pub fn row(
-    out: &impl Print,
-    block: &mut [u8; BLOCK],
-    waiting: usize,
-    table: &[u8],
-    start: usize,
-    width: u8,
-) -> usize {
-    let mut now = waiting;
-    let mut i: u8 = 0;
-    while i < width {
-        let b = at(table, start.wrapping_add(i as usize));
-        if b == b'.' {
-            return now;
-        }
-        now = byte(out, block, now, b);
-        i += 1;
-    }
-    now
-}
-
-pub fn kind(out: &impl Print, block: &mut [u8; BLOCK], waiting: usize, k: u32) -> usize {
-    row(out, block, waiting, &KINDS, k as usize * 8, 8)
-}
-
-pub fn join_word(out: &impl Print, block: &mut [u8; BLOCK], waiting: usize, text: u32) -> usize {
-    row(out, block, waiting, &WORDS, text as usize * 7, 7)
-}
-
-// A prefix or binary operator, by the detail of its record.
-pub fn operator(out: &impl Print, block: &mut [u8; BLOCK], waiting: usize, detail: u32) -> usize {
-    match detail {
-        kinds::STAR..=kinds::GE => row(
-            out,
-            block,
-            waiting,
-            &SIGNS,
-            (detail - kinds::STAR) as usize * 2,
-            2,
-        ),
-        137 => bytes(out, block, waiting, b"IS NOT"),
-        201..=203 => like(out, block, waiting, detail - 200),
-        301..=303 => {
-            let not = bytes(out, block, waiting, b"NOT ");
-            like(out, block, not, detail - 300)
-        }
-        _ => kind(out, block, waiting, detail),
-    }
-}
-
-// The word of a LIKE_KW.
-pub fn like(out: &impl Print, block: &mut [u8; BLOCK], waiting: usize, text: u32) -> usize {
+// A join word, by its text number.
+pub fn join_word(text: u32) -> &'static str {
     match text {
-        1 => bytes(out, block, waiting, b"LIKE"),
-        2 => bytes(out, block, waiting, b"GLOB"),
-        _ => bytes(out, block, waiting, b"REGEXP"),
+        words::NO_WORD => "a word",
+        words::CROSS => "CROSS",
+        words::FULL => "FULL",
+        words::INNER => "INNER",
+        words::LEFT => "LEFT",
+        words::NATURAL => "NATURAL",
+        words::RIGHT => "RIGHT",
+        words::OUTER => "OUTER",
+        _ => "",
+    }
+}
+
+// The word of a LIKE_KW, by its text number.
+pub fn like(text: u32) -> &'static str {
+    match text {
+        1 => "LIKE",
+        2 => "GLOB",
+        _ => "REGEXP",
+    }
+}
+
+// A prefix or binary operator, by the detail of its record; any other kind has its name.
+pub fn operator(detail: u32) -> &'static str {
+    match detail {
+        kinds::STAR..=kinds::GE => sign(detail),
+        node::IS_NOT => "IS NOT",
+        201..=203 => like(detail - node::LIKE),
+        301 => "NOT LIKE",
+        302 => "NOT GLOB",
+        303 => "NOT REGEXP",
+        _ => kind(detail),
+    }
+}
+
+// The sign of a kind from STAR to GE.
+fn sign(kind: u32) -> &'static str {
+    match kind {
+        kinds::STAR => "*",
+        kinds::PLUS => "+",
+        kinds::MINUS => "-",
+        kinds::SLASH => "/",
+        kinds::REM => "%",
+        kinds::CONCAT => "||",
+        kinds::BITAND => "&",
+        kinds::BITOR => "|",
+        kinds::LSHIFT => "<<",
+        kinds::RSHIFT => ">>",
+        kinds::BITNOT => "~",
+        kinds::EQ => "=",
+        kinds::NE => "<>",
+        kinds::LT => "<",
+        kinds::LE => "<=",
+        kinds::GT => ">",
+        _ => ">=",
     }
 }

@@ -1,159 +1,124 @@
-// What the writer answers: the canonical writing in numbers or in words, or why there is none. Each function takes how
-// many bytes of the block wait, and answers how many wait then.
+// What the writer answers: the canonical writing in numbers or in words, or why there is none.
+use crate::names::{join_word, like, operator};
+use crate::refusals::Missing;
 use kinds::{COMMA, DOT, ID, INDEXED, JOIN_KW, LIKE_KW, LP, RP};
-use lines::Line;
+use lines::Command;
 use reading::Writing;
-use report::{BLOCK, byte, bytes, number, wide};
+use std::fmt;
 
 // The forms of an answer: in numbers after the records, or after those of the reader, or in words.
-pub const FULL: u8 = 0;
-
-pub const SHORT: u8 = 1;
-
-pub const WORDS: u8 = 2;
-
-// The number at a place of a list, 0 beyond its end.
-fn at(list: &[u32], place: usize) -> u32 {
-    if place < list.len() { list[place] } else { 0 }
+#[derive(Clone, Copy, PartialEq, Eq, Debug)]
+pub enum Form {
+    Full,
+    Short,
+    Words,
 }
 
-// A text number, after a mark.
-fn text(out: &impl Print, block: &mut [u8; BLOCK], waiting: usize, mark: u8, n: u32) -> usize {
-    let marked = byte(out, block, waiting, mark);
-    number(out, block, marked, wide(n))
-}
-
-fn in_numbers(
-    out: &impl Print,
-    block: &mut [u8; BLOCK],
-    waiting: usize,
+// A token in numbers.
+#[derive(Clone, Copy)]
+struct Numbers {
     kind: u32,
-    n: u32,
-) -> usize {
-    let told = number(out, block, waiting, wide(kind));
-    if n == 0 {
-        return told;
-    }
-    text(out, block, told, b'.', n)
+    text: u32,
 }
 
-// An ID is its text number alone.
-fn in_words(out: &impl Print, block: &mut [u8; BLOCK], waiting: usize, kind: u32, n: u32) -> usize {
-    match kind {
-        ID => text(out, block, waiting, b'#', n),
-        LP => byte(out, block, waiting, b'('),
-        RP => byte(out, block, waiting, b')'),
-        COMMA => byte(out, block, waiting, b','),
-        DOT => byte(out, block, waiting, b'.'),
-        JOIN_KW => crate::names::join_word(out, block, waiting, n),
-        LIKE_KW => crate::names::like(out, block, waiting, n),
-        _ => named(out, block, waiting, kind, n),
+impl fmt::Display for Numbers {
+    fn fmt<W: fmt::Write>(&self, f: &mut fmt::Formatter<W>) -> fmt::Result {
+        let Numbers { kind, text } = *self;
+        if text == 0 {
+            write!(f, "{kind}")
+        } else {
+            write!(f, "{kind}.{text}")
+        }
     }
 }
 
-// Whether a token has a text number to show; INDEXED has one only where it is a name.
-fn has_text(kind: u32, n: u32) -> bool {
-    if kind == INDEXED {
-        return n > 0;
-    }
-    kinds::reads_text(kind)
-}
-
-fn named(out: &impl Print, block: &mut [u8; BLOCK], waiting: usize, kind: u32, n: u32) -> usize {
-    let said = crate::names::operator(out, block, waiting, kind);
-    if !has_text(kind, n) {
-        return said;
-    }
-    let parted = byte(out, block, said, b' ');
-    text(out, block, parted, b'#', n)
-}
-
-// A token, after a blank.
-fn token(
-    out: &impl Print,
-    block: &mut [u8; BLOCK],
-    waiting: usize,
+// A token in words. An ID is its text number alone.
+#[derive(Clone, Copy)]
+struct Words {
     kind: u32,
-    n: u32,
-    aloud: bool,
-) -> usize {
-    let begun = byte(out, block, waiting, b' ');
-    if aloud {
-        return in_words(out, block, begun, kind, n);
-    }
-    in_numbers(out, block, begun, kind, n)
+    text: u32,
 }
 
-fn tokens<'a>(
-    out: &impl Print,
-    block: &mut [u8; BLOCK],
-    waiting: usize,
-    kinds: &'a [u32],
-    texts: &'a [u32],
-    count: usize,
-    aloud: bool,
-) -> usize {
-    let mut now = waiting;
-    let mut i = 0;
-    while i < count {
-        now = token(out, block, now, at(kinds, i), at(texts, i), aloud);
-        i += 1;
+impl Words {
+    // Whether the token has a text number to show; INDEXED has one only where it is a name.
+    fn has_text(&self) -> bool {
+        if self.kind == INDEXED {
+            self.text > 0
+        } else {
+            kinds::reads_text(self.kind)
+        }
     }
-    now
+}
+
+impl fmt::Display for Words {
+    fn fmt<W: fmt::Write>(&self, f: &mut fmt::Formatter<W>) -> fmt::Result {
+        let Words { kind, text } = *self;
+        match kind {
+            ID => write!(f, "#{text}"),
+            LP => f.write_str("("),
+            RP => f.write_str(")"),
+            COMMA => f.write_str(","),
+            DOT => f.write_str("."),
+            JOIN_KW => f.write_str(join_word(text)),
+            LIKE_KW => f.write_str(like(text)),
+            _ if self.has_text() => write!(f, "{} #{text}", operator(kind)),
+            _ => f.write_str(operator(kind)),
+        }
+    }
 }
 
 // Why there is no writing of a command that was read: its lists have too little room, or differ.
-fn none(out: &impl Print, block: &mut [u8; BLOCK], waiting: usize, w: Writing) -> usize {
-    let said = bytes(out, block, waiting, b"  no writing: refusal ");
-    let told = number(out, block, said, wide(w.number));
-    if w.number == 1 {
-        return bytes(out, block, told, b": the writer's outputs differ in length");
+fn none<W: fmt::Write>(out: &mut W, w: Writing) -> fmt::Result {
+    let Writing { number, place, .. } = w;
+    write!(out, "  no writing: refusal {number}")?;
+    if number == 1 {
+        write!(out, ": the writer's outputs differ in length")
+    } else {
+        write!(out, "{}", Missing { number, place })
     }
-    crate::refusals::missing(out, block, told, w.number, w.place)
 }
 
-fn form<'a>(
-    out: &impl Print,
-    block: &mut [u8; BLOCK],
-    waiting: usize,
-    w: Writing,
-    kinds: &'a [u32],
-    texts: &'a [u32],
-    how: u8,
-) -> usize {
-    if how == SHORT {
-        let named = bytes(out, block, waiting, b" W ");
-        return crate::two(out, block, named, w.number, w.place);
-    }
-    if how == FULL {
-        let parted = bytes(out, block, waiting, b" :");
-        return tokens(out, block, parted, kinds, texts, w.used, false);
-    }
-    if w.number > 0 {
-        return none(out, block, waiting, w);
-    }
-    let said = bytes(out, block, waiting, b"  writing:");
-    tokens(out, block, said, kinds, texts, w.used, true)
-}
-
-// The writer's answer to the line, in one of the forms; the table holds the reading, or is clear.
-pub fn tell<'a>(
-    out: &impl Print,
-    block: &mut [u8; BLOCK],
-    waiting: usize,
-    line: Line,
-    kinds: &'a [u32],
-    texts: &'a [u32],
+// The writer's answer to the command, in one of the forms; the table holds the reading, or is clear.
+pub fn tell<W: fmt::Write>(
+    out: &mut W,
+    command: &Command,
     nodes: &mut [u32],
-    how: u8,
-) -> usize {
+    form: Form,
+) -> fmt::Result {
+    // Two lists, as the writer takes them: its C interface has two.
     let mut out_kinds = [0u32; lines::TOKENS];
     let mut out_texts = [0u32; lines::TOKENS];
-    let w = reading::written(line, kinds, texts, nodes, &mut out_kinds, &mut out_texts);
+    let w = reading::written(
+        *command.line(),
+        command.kinds(),
+        command.texts(),
+        nodes,
+        &mut out_kinds,
+        &mut out_texts,
+    );
+    let tokens = out_kinds
+        .iter()
+        .copied()
+        .zip(out_texts.iter().copied())
+        .take(w.used);
     if !w.kept {
-        let said = bytes(out, block, waiting, b" ! output changed beyond the writing");
-        return byte(out, block, said, b'\n');
+        return writeln!(out, " ! output changed beyond the writing");
     }
-    let end = form(out, block, waiting, w, &out_kinds, &out_texts, how);
-    byte(out, block, end, b'\n')
+    match form {
+        Form::Short => write!(out, " W {} {}", w.number, w.place)?,
+        Form::Full => {
+            write!(out, " :")?;
+            for (kind, text) in tokens {
+                write!(out, " {}", Numbers { kind, text })?;
+            }
+        }
+        Form::Words if w.number > 0 => none(out, w)?,
+        Form::Words => {
+            write!(out, "  writing:")?;
+            for (kind, text) in tokens {
+                write!(out, " {}", Words { kind, text })?;
+            }
+        }
+    }
+    writeln!(out)
 }

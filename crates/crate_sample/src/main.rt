@@ -68,9 +68,9 @@ fn opened() -> Case {
         part: MARK,
         same: false,
         classed: false,
-        line: lines::begun(),
+        line: Line::new(),
         reading: reading::none(),
-        expected: lines::expecting(),
+        expected: Expected::new(),
         right: true,
         differs: false,
     }
@@ -120,7 +120,7 @@ fn commanded(
 ) -> Case {
     let line = case.line;
     if b == b'=' {
-        if lines::may_end(line) {
+        if line.may_end() {
             let r = reading::of_line(line, kinds, texts, nodes);
             case.reading = r;
             case.part = OURS;
@@ -130,7 +130,7 @@ fn commanded(
             return case;
         }
     }
-    case.line = lines::taken(line, b, kinds, texts);
+    case.line.take(b, kinds, texts);
     case
 }
 
@@ -163,11 +163,8 @@ fn is_whole(case: Case) -> bool {
 
 // A byte of an answer.
 fn told(mut case: Case, b: u8, nodes: &[u32]) -> Case {
-    let before = case.expected;
-    let now = lines::told(before, b);
-    case.expected = now;
-    if lines::has_number(now) {
-        if !agrees(case.reading, now.count, now.number, nodes) {
+    if let Some(n) = case.expected.take(b) {
+        if !agrees(case.reading, case.expected.count, n, nodes) {
             if case.part == OURS {
                 case.right = false;
             } else {
@@ -184,7 +181,7 @@ fn parted(mut case: Case) -> Case {
         case.right = false;
     }
     case.part = CRATE;
-    case.expected = lines::expecting();
+    case.expected = Expected::new();
     case
 }
 

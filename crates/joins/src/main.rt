@@ -3,7 +3,7 @@
 #![tactic(auto)]
 
 use kinds::{FROM, ID, JOIN, JOIN_KW, SELECT, node};
-use reader::Answer;
+use reader::{Reason, Refusal};
 use reading::{PLACES, WIDTH, put};
 use report::mixed;
 use std::io::Result;
@@ -61,20 +61,20 @@ impl Tally {
     }
 
     // What the reader answered, the detail of the join that it left, and where JOIN stands.
-    fn count(&mut self, got: Answer, detail: u32, join: usize) {
+    fn count(&mut self, got: std::result::Result<usize, Refusal>, detail: u32, join: usize) {
         self.sequences = self.sequences.wrapping_add(1);
         match got {
-            Answer::Accepted(count) => {
+            Ok(count) => {
                 self.accepted = self.accepted.wrapping_add(1);
                 self.mix(0);
                 self.mix(count as u64);
                 self.mix(detail as u64);
             }
-            Answer::Refused(number, place) => {
-                if number == 7 && place == join {
+            Err(Refusal { why, place }) => {
+                if why == Reason::JoinFlags && place == join {
                     self.refused = self.refused.wrapping_add(1);
                 }
-                self.mix(number as u64);
+                self.mix(why.number() as u64);
                 self.mix(place as u64);
             }
         }

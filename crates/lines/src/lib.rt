@@ -6,17 +6,20 @@
 // Blanks may stand before, between and after; the first form may be empty. The numbers are stored as they come.
 #![tactic(auto)]
 
+mod command;
 mod number;
+mod state;
 mod vectors;
 
-ghost use Rattle.std.specs.Prelude.{◌≡◌, ◌≤◌};
+ghost use Rattle.std.specs.Prelude.{◌≡◌, ◌≤◌, slice_get};
 ghost use Rattle.lines.specs.Numbers.{last_set};
-ghost use Rattle.lines.specs.States.{along, blank_ways, dot_ways, digit_ways};
 ghost use Rattle.lines.specs.Forms.{no_line, is_wrong, is_room, table_of, out_kinds_of, out_texts_of, may_end, ended_line, line_with, kinds_with, texts_with};
 ghost use Rattle.lines.specs.Forms as forms;
 
-pub use number::{Longer, digit, with_digit};
-pub use vectors::{Expected, expecting, has_number, has_writing, told};
+pub use command::Command;
+pub use number::{digit, with_digit};
+use state::State;
+pub use vectors::Expected;
 
 // The most tokens that a line may have, and the longest output that it may ask for.
 pub const TOKENS: usize = 8192;
@@ -26,62 +29,23 @@ const OUTPUT: u32 = 8192;
 // The longest node table that a line may ask for.
 pub const TABLE: u32 = 65536;
 
-// The words of the second form. A line has `spelled` of their bytes behind it.
-const WORDS: [u8; 28] = *b"table=outk=outt=kinds:texts:";
+// The words of the second form, and how many of their bytes are behind after each: numbers, not an enum of words, for a
+// line is between two letters as well.
+const WORDS: &[u8] = b"table=outk=outt=kinds:texts:";
 
-const AFTER_TABLE: usize = 6;
+const AFTER_TABLE: usize = b"table=".len();
 
-const AFTER_OUTK: usize = 11;
+const AFTER_OUTK: usize = b"table=outk=".len();
 
-const AFTER_OUTT: usize = 16;
+const AFTER_OUTT: usize = b"table=outk=outt=".len();
 
-const AFTER_KINDS: usize = 22;
+const AFTER_KINDS: usize = b"table=outk=outt=kinds:".len();
 
-const AFTER_TEXTS: usize = 28;
+const AFTER_TEXTS: usize = WORDS.len();
 
-// Where a line stands.
-// A byte did not fit.
-const WRONG: u8 = 0;
-
-// Nothing but blanks so far.
-const START: u8 = 1;
-
-// After a blank that follows a token.
-const GAP: u8 = 2;
-
-// In a kind.
-const KIND: u8 = 3;
-
-// After its dot.
-const DOT: u8 = 4;
-
-// In a text number.
-const TEXT: u8 = 5;
-
-// In a word.
-const WORD: u8 = 6;
-
-// After `=`.
-const EQUALS: u8 = 7;
-
-// In the number after `=`.
-const SIZE: u8 = 8;
-
-// After a blank that follows such a number.
-const SPACE: u8 = 9;
-
-// After `:`.
-const COLON: u8 = 10;
-
-// After a blank that follows `:` or a number of its list.
-const BETWEEN: u8 = 11;
-
-// In a number of such a list.
-const ITEM: u8 = 12;
-
-#[derive(Clone, Copy)]
+#[derive(Clone, Copy, PartialEq, Eq, Debug, Default)]
 pub struct Line {
-    state: u8,
+    state: State,
     // Bytes of WORDS that are behind.
     spelled: usize,
     // The number that the line is in.
@@ -92,338 +56,249 @@ pub struct Line {
     pub texts: usize,
     // What the second form says after `table=`, `outk=` and `outt=`.
     table: u32,
-    outk: u32,
-    outt: u32,
+    out_kinds: u32,
+    out_texts: u32,
 }
 
-pub fn begun() -> Line
-    ensures { result ≡ no_line }
-{
-    Line {
-        state: START,
-        spelled: 0,
-        number: 0,
-        column: 0,
-        kinds: 0,
-        texts: 0,
-        table: 0,
-        outk: 0,
-        outt: 0,
+impl Line {
+    pub fn new() -> Line
+        ensures { result ≡ no_line }
+    {
+        Line::default()
     }
-}
 
-pub fn is_wrong(line: Line) -> bool
-    ensures { result ≡ is_wrong line }
-{
-    line.state == WRONG
-}
-
-// Whether the line has the second form.
-pub fn is_room(line: Line) -> bool
-    ensures { result ≡ is_room line }
-{
-    line.spelled > 0
-}
-
-// How many numbers the node table is to have.
-pub fn table(line: Line) -> u32
-    ensures { result ≡ table_of line }
-{
-    if line.spelled > 0 { line.table } else { TABLE }
-}
-
-// How many kinds and how many text numbers the writer's output is to have.
-pub fn out_kinds(line: Line) -> u32
-    ensures { result ≡ out_kinds_of line }
-{
-    if line.spelled > 0 { line.outk } else { OUTPUT }
-}
-
-pub fn out_texts(line: Line) -> u32
-    ensures { result ≡ out_texts_of line }
-{
-    if line.spelled > 0 { line.outt } else { OUTPUT }
-}
-
-// Whether what was taken is a line of one of the forms.
-pub fn may_end(line: Line) -> bool
-    ensures { result ≡ may_end line }
-{
-    let state = line.state;
-    match state {
-        START | GAP | KIND | TEXT => true,
-        COLON | BETWEEN | ITEM => line.spelled == AFTER_TEXTS,
-        _ => false,
+    pub fn is_wrong(&self) -> bool
+        ensures { result ≡ is_wrong self.now }
+    {
+        self.state == State::Wrong
     }
-}
 
-// The line at its end: wrong, just after its last byte, where it is cut short.
-pub fn ended(line: Line) -> Line
-    ensures { result ≡ ended_line line }
-{
-    if line.state == WRONG {
-        return line;
+    // Whether the line has the second form.
+    pub fn is_room(&self) -> bool
+        ensures { result ≡ is_room self.now }
+    {
+        self.spelled > 0
     }
-    if may_end(line) {
-        return line;
-    }
-    wrong(counted(line))
-}
 
-// One byte more, that is no line end; a number of a list goes into its list.
-pub fn taken(line: Line, byte: u8, kinds: &mut [u32], texts: &mut [u32]) -> Line
-    ensures value { result ≡ line_with line byte }
-    ensures kinds_after { kinds.new ≡ kinds_with (line_with line byte) kinds.old }
-    ensures texts_after { texts.new ≡ texts_with (line_with line byte) texts.old }
-{
-    let now = next(line, byte);
-    store_kind(now, kinds);
-    store_text(now, texts);
-    now
-}
+    // How many numbers the node table is to have.
+    pub fn table(&self) -> u32
+        ensures { result ≡ table_of self.now }
+    {
+        self.size(self.table, TABLE)
+    }
 
-fn next(old: Line, byte: u8) -> Line
-    ensures { result ≡ line_with old byte }
-{
-    if old.state == WRONG {
-        return old;
+    // How many kinds and how many text numbers the writer's output is to have.
+    pub fn out_kinds(&self) -> u32
+        ensures { result ≡ out_kinds_of self.now }
+    {
+        self.size(self.out_kinds, OUTPUT)
     }
-    on_byte(counted(old), byte)
-}
 
-fn on_byte(line: Line, byte: u8) -> Line
-    ensures { result ≡ forms.on_byte line byte }
-{
-    if byte == b' ' {
-        return to(line, after_blank(line.state));
+    pub fn out_texts(&self) -> u32
+        ensures { result ≡ out_texts_of self.now }
+    {
+        self.size(self.out_texts, OUTPUT)
     }
-    if byte == b'.' {
-        return to(line, after_dot(line.state));
-    }
-    let d = digit(byte);
-    if d < 10 {
-        return figure(line, d);
-    }
-    letter(line, byte)
-}
 
-fn counted(mut line: Line) -> Line
-    ensures { result ≡ forms.counted line }
-{
-    line.column = line.column.wrapping_add(1);
-    line
-}
-
-fn wrong(line: Line) -> Line
-    ensures { result ≡ forms.wrong_line line }
-{
-    to(line, WRONG)
-}
-
-fn to(mut line: Line, state: u8) -> Line
-    ensures { result ≡ forms.at_state state line }
-{
-    line.state = state;
-    line
-}
-
-// Where a blank leads: it may stand before, between and after numbers and words.
-fn after_blank(state: u8) -> u8
-    ensures { result ≡ along blank_ways state }
-{
-    match state {
-        START => START,
-        GAP | KIND | TEXT => GAP,
-        SPACE | SIZE => SPACE,
-        BETWEEN | COLON | ITEM => BETWEEN,
-        _ => WRONG,
+    // A size that the second form asks for; the first has the largest.
+    fn size(&self, asked: u32, most: u32) -> u32
+        ensures { result ≡ forms.size_of self.now asked most }
+    {
+        if self.is_room() { asked } else { most }
     }
-}
 
-fn after_dot(state: u8) -> u8
-    ensures { result ≡ along dot_ways state }
-{
-    match state {
-        KIND => DOT,
-        _ => WRONG,
-    }
-}
-
-fn after_digit(state: u8) -> u8
-    ensures { result ≡ along digit_ways state }
-{
-    match state {
-        START | GAP | KIND => KIND,
-        DOT | TEXT => TEXT,
-        EQUALS | SIZE => SIZE,
-        BETWEEN | ITEM => ITEM,
-        _ => WRONG,
-    }
-}
-
-// A digit begins a number, or is one more of the number that the line is in.
-fn figure(line: Line, d: u32) -> Line
-    ensures { result ≡ forms.on_digit line d }
-{
-    let state = after_digit(line.state);
-    if state == WRONG {
-        return wrong(line);
-    }
-    if state == line.state {
-        return grown(line, d);
-    }
-    grown(entered(line, state), d)
-}
-
-// A number begins, and is an entry more of the lists that it is in.
-fn entered(mut line: Line, state: u8) -> Line
-    ensures { result ≡ forms.entered state line }
-{
-    let k = new_kinds(state, line.spelled);
-    let t = new_texts(state, line.spelled);
-    if line.kinds > TOKENS - k {
-        return wrong(line);
-    }
-    if line.texts > TOKENS - t {
-        return wrong(line);
-    }
-    line.state = state;
-    line.number = 0;
-    line.kinds += k;
-    line.texts += t;
-    line
-}
-
-// A token has a kind and a text number; a number of a list is one of the two.
-fn new_kinds(state: u8, spelled: usize) -> usize
-    ensures value { result ≡ forms.new_kinds state spelled }
-    ensures upper_bound { result ≤ 1 }
-{
-    if state == KIND {
-        return 1;
-    }
-    if state == ITEM {
-        if spelled == AFTER_KINDS {
-            return 1;
+    // Whether what was taken is a line of one of the forms.
+    pub fn may_end(&self) -> bool
+        ensures { result ≡ may_end self.now }
+    {
+        match self.state {
+            State::Start | State::Gap | State::Kind | State::Text => true,
+            State::Colon | State::Between | State::Item => self.spelled == AFTER_TEXTS,
+            _ => false,
         }
     }
-    0
-}
 
-fn new_texts(state: u8, spelled: usize) -> usize
-    ensures value { result ≡ forms.new_texts state spelled }
-    ensures upper_bound { result ≤ 1 }
-{
-    if state == KIND {
-        return 1;
-    }
-    if state == ITEM {
-        if spelled != AFTER_KINDS {
-            return 1;
+    // The line's end: it is wrong, just after its last byte, where it is cut short.
+    pub fn end(&mut self)
+        ensures { self.new ≡ ended_line self.old }
+    {
+        if !self.is_wrong() && !self.may_end() {
+            self.count();
+            self.fail();
         }
     }
-    0
-}
 
-// A digit more.
-fn grown(line: Line, d: u32) -> Line
-    ensures { result ≡ forms.grown line d }
-{
-    if line.state == WRONG {
-        return line;
+    // One byte more, that is no line end; a number of a list goes into its list.
+    // The lists beside the line, of any length: what is promised of them may not change. `Command` has all in one.
+    pub fn take(&mut self, byte: u8, kinds: &mut [u32], texts: &mut [u32])
+        ensures value { self.new ≡ line_with self.old byte }
+        ensures kinds_after { kinds.new ≡ kinds_with (line_with self.old byte) kinds.old }
+        ensures texts_after { texts.new ≡ texts_with (line_with self.old byte) texts.old }
+    {
+        self.step(byte);
+        self.store(kinds, texts);
     }
-    let longer = with_digit(line.number, d, most(line));
-    let Longer::Number(n) = longer else {
-        return wrong(line);
-    };
-    numbered(line, n)
-}
 
-fn most(line: Line) -> u32
-    ensures { result ≡ forms.most line }
-{
-    if line.state != SIZE {
-        return u32::MAX;
+    fn step(&mut self, byte: u8)
+        ensures { self.new ≡ line_with self.old byte }
+    {
+        if !self.is_wrong() {
+            self.count();
+            self.on_byte(byte);
+        }
     }
-    if line.spelled == AFTER_TABLE {
-        TABLE
-    } else {
-        OUTPUT
-    }
-}
 
-// A number after `=` is the size that the word before it asks for.
-fn numbered(mut line: Line, n: u32) -> Line
-    ensures { result ≡ forms.numbered n line }
-{
-    line.number = n;
-    if line.state != SIZE {
-        return line;
+    fn count(&mut self)
+        ensures { self.new ≡ forms.counted self.old }
+    {
+        self.column = self.column.wrapping_add(1);
     }
-    let at = line.spelled;
-    match at {
-        AFTER_TABLE => line.table = n,
-        AFTER_OUTK => line.outk = n,
-        AFTER_OUTT => line.outt = n,
-        _ => {}
-    }
-    line
-}
 
-// A byte of a word.
-fn letter(line: Line, byte: u8) -> Line
-    ensures { result ≡ forms.on_letter line byte }
-{
-    let state = line.state;
-    match state {
-        START | WORD | SPACE | BETWEEN => spelt(line, byte),
-        _ => wrong(line),
+    fn fail(&mut self)
+        ensures { self.new ≡ forms.wrong_line self.old }
+    {
+        self.state = State::Wrong;
     }
-}
 
-fn spelt(mut line: Line, byte: u8) -> Line
-    ensures { result ≡ forms.spelt_by line byte }
-{
-    let at = line.spelled;
-    if at >= AFTER_TEXTS {
-        return wrong(line);
+    fn on_byte(&mut self, byte: u8)
+        ensures { self.new ≡ forms.on_byte self.old byte }
+    {
+        match byte {
+            b' ' => self.state = self.state.after_blank(),
+            b'.' => self.state = self.state.after_dot(),
+            _ => match digit(byte) {
+                Some(d) => self.figure(d),
+                None => self.letter(byte),
+            },
+        }
     }
-    if byte != WORDS[at] {
-        return wrong(line);
-    }
-    line.spelled = at + 1;
-    match byte {
-        b'=' => to(line, EQUALS),
-        b':' => to(line, COLON),
-        _ => to(line, WORD),
-    }
-}
 
-// The number that the line is in goes into its list; a token's text number is 0 until it comes.
-fn store_kind(line: Line, kinds: &mut [u32])
-    ensures { kinds.new ≡ kinds_with line kinds.old }
-{
-    let state = line.state;
-    match state {
-        KIND => put(kinds, line.kinds, line.number),
-        ITEM => if line.spelled == AFTER_KINDS {
-            put(kinds, line.kinds, line.number)
-        },
-        _ => {}
+    // A digit begins a number, or is one more of the number that the line is in.
+    fn figure(&mut self, d: u32)
+        ensures { self.new ≡ forms.on_digit self.old d }
+    {
+        match self.state {
+            State::Start | State::Gap => self.enter(State::Kind),
+            State::Dot => self.enter(State::Text),
+            State::Equals => self.enter(State::Size),
+            State::Between => self.enter(State::Item),
+            State::Kind | State::Text | State::Size | State::Item => {}
+            _ => self.fail(),
+        }
+        self.grow(d);
     }
-}
 
-fn store_text(line: Line, texts: &mut [u32])
-    ensures { texts.new ≡ texts_with line texts.old }
-{
-    let state = line.state;
-    match state {
-        KIND => put(texts, line.texts, 0),
-        TEXT => put(texts, line.texts, line.number),
-        ITEM => if line.spelled != AFTER_KINDS {
-            put(texts, line.texts, line.number)
-        },
-        _ => {}
+    // A number begins, and is an entry more of the lists that it is in.
+    fn enter(&mut self, state: State)
+        ensures { self.new ≡ forms.entered state self.old }
+    {
+        let (kinds, texts) = self.entries(state);
+        if self.kinds > TOKENS - kinds || self.texts > TOKENS - texts {
+            self.fail();
+            return;
+        }
+        self.state = state;
+        self.number = 0;
+        self.kinds += kinds;
+        self.texts += texts;
+    }
+
+    // How many kinds and text numbers a number is that begins in that state: a token has one of each, a number of a list
+    // is one of the two.
+    fn entries(&self, state: State) -> (usize, usize)
+        ensures kinds { result.0 ≡ forms.new_kinds state self.now.spelled }
+        ensures texts { result.1 ≡ forms.new_texts state self.now.spelled }
+        ensures upper_bound { (result.0 ≤ 1) × (result.1 ≤ 1) }
+    {
+        match state {
+            State::Kind => (1, 1),
+            State::Item if self.spelled == AFTER_KINDS => (1, 0),
+            State::Item => (0, 1),
+            _ => (0, 0),
+        }
+    }
+
+    // A digit more.
+    fn grow(&mut self, d: u32)
+        ensures { self.new ≡ forms.grown self.old d }
+    {
+        if self.is_wrong() {
+            return;
+        }
+        match with_digit(self.number, d, self.most()) {
+            Some(n) => self.set_number(n),
+            None => self.fail(),
+        }
+    }
+
+    fn most(&self) -> u32
+        ensures { result ≡ forms.most self.now }
+    {
+        match self.state {
+            State::Size if self.spelled == AFTER_TABLE => TABLE,
+            State::Size => OUTPUT,
+            _ => u32::MAX,
+        }
+    }
+
+    // A number after `=` is the size that the word before it asks for.
+    fn set_number(&mut self, n: u32)
+        ensures { self.new ≡ forms.numbered n self.old }
+    {
+        self.number = n;
+        if self.state == State::Size {
+            match self.spelled {
+                AFTER_TABLE => self.table = n,
+                AFTER_OUTK => self.out_kinds = n,
+                AFTER_OUTT => self.out_texts = n,
+                _ => {}
+            }
+        }
+    }
+
+    // The byte of the words that is to come.
+    fn next_letter(&self) -> Option<u8>
+        ensures { result ≡ slice_get forms.WORDS self.now.spelled }
+    {
+        WORDS.get(self.spelled).copied()
+    }
+
+    // A byte of a word.
+    fn letter(&mut self, byte: u8)
+        ensures { self.new ≡ forms.on_letter self.old byte }
+    {
+        match self.state {
+            State::Start | State::Word | State::Space | State::Between => self.spell(byte),
+            _ => self.fail(),
+        }
+    }
+
+    fn spell(&mut self, byte: u8)
+        ensures { self.new ≡ forms.spelt_by self.old byte }
+    {
+        if self.next_letter() == Some(byte) {
+            self.spelled += 1;
+            self.state = State::after_letter(byte);
+        } else {
+            self.fail();
+        }
+    }
+
+    // The number that the line is in goes into its list; a token's text number is 0 until it comes.
+    fn store(&self, kinds: &mut [u32], texts: &mut [u32])
+        ensures kinds_after { kinds.new ≡ kinds_with self.now kinds.old }
+        ensures texts_after { texts.new ≡ texts_with self.now texts.old }
+    {
+        match self.state {
+            State::Kind => {
+                put(kinds, self.kinds, self.number);
+                put(texts, self.texts, 0);
+            }
+            State::Text => put(texts, self.texts, self.number),
+            State::Item if self.spelled == AFTER_KINDS => put(kinds, self.kinds, self.number),
+            State::Item => put(texts, self.texts, self.number),
+            _ => {}
+        }
     }
 }
 
@@ -431,9 +306,8 @@ fn store_text(line: Line, texts: &mut [u32])
 fn put(list: &mut [u32], count: usize, n: u32)
     ensures { list.new ≡ last_set list.old count n }
 {
-    if count > 0 {
-        if count <= list.len() {
-            list[count - 1] = n;
-        }
+    // Not by `get_mut`: tried, and the proof did not close, for its contract says nothing of the element.
+    if count > 0 && count <= list.len() {
+        list[count - 1] = n;
     }
 }

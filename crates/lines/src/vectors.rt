@@ -6,116 +6,99 @@
 //
 // Its numbers are told apart, up to the second colon: what is behind that, the writing, is a line of the first form.
 ghost use Rattle.std.specs.Prelude.{◌≡◌};
-ghost use Rattle.lines.specs.Vectors.{has_number, has_writing, none_told, told_with};
+ghost use Rattle.lines.specs.Vectors.{has_writing, none_told, number_told, told_with};
 ghost use Rattle.lines.specs.Vectors as vectors;
 
-use crate::number::{Longer, digit, with_digit};
+use crate::number::{digit, with_digit};
 
-#[derive(Clone, Copy)]
+// The parts of an answer, parted by its colons.
+#[derive(Clone, Copy, PartialEq, Eq, Debug, Default)]
+enum Part {
+    #[default]
+    Head,
+    Records,
+    Writing,
+}
+
+impl Part {
+    fn after_colon(self) -> Part
+        ensures { result ≡ vectors.after_colon self }
+    {
+        match self {
+            Part::Head => Part::Records,
+            Part::Records | Part::Writing => Part::Writing,
+        }
+    }
+}
+
+#[derive(Clone, Copy, PartialEq, Eq, Debug, Default)]
 pub struct Expected {
-    pub number: u32,
-    // How many numbers are behind; the last is `number` where one has just ended.
+    // The number that the answer is in.
+    inside: Option<u32>,
+    // How many numbers are behind.
     pub count: usize,
-    // In a number.
-    inside: bool,
-    // One has just ended.
-    fresh: bool,
-    colons: u8,
-    // The second colon is behind.
-    closed: bool,
+    part: Part,
     pub wrong: bool,
 }
 
-pub fn expecting() -> Expected
-    ensures { result ≡ none_told }
-{
-    Expected {
-        number: 0,
-        count: 0,
-        inside: false,
-        fresh: false,
-        colons: 0,
-        closed: false,
-        wrong: false,
+impl Expected {
+    pub fn new() -> Expected
+        ensures { result ≡ none_told }
+    {
+        Expected::default()
     }
-}
 
-// Whether the last byte ended a number.
-pub fn has_number(e: Expected) -> bool
-    ensures { result ≡ has_number e }
-{
-    e.fresh
-}
-
-// Whether the rest is the writing.
-pub fn has_writing(e: Expected) -> bool
-    ensures { result ≡ has_writing e }
-{
-    e.closed
-}
-
-// One byte more; a line end ends the last number.
-pub fn told(e: Expected, byte: u8) -> Expected
-    ensures { result ≡ told_with e byte }
-{
-    if e.closed {
-        return stale(e);
+    // Whether the rest is the writing.
+    pub fn has_writing(&self) -> bool
+        ensures { result ≡ has_writing self.now }
+    {
+        self.part == Part::Writing
     }
-    let d = digit(byte);
-    if d < 10 {
-        return figure(e, d);
-    }
-    separator(ended(e), byte)
-}
 
-fn stale(mut e: Expected) -> Expected
-    ensures { result ≡ vectors.stale e }
-{
-    e.fresh = false;
-    e
-}
-
-fn figure(mut e: Expected, d: u32) -> Expected
-    ensures { result ≡ vectors.with_figure e d }
-{
-    let grown = with_digit(so_far(e), d, u32::MAX);
-    e.inside = true;
-    e.fresh = false;
-    match grown {
-        Longer::Number(n) => e.number = n,
-        Longer::Over => e.wrong = true,
-    }
-    e
-}
-
-// The number that the answer is in; 0 where one is to begin.
-fn so_far(e: Expected) -> u32
-    ensures { result ≡ vectors.so_far e }
-{
-    if e.inside { e.number } else { 0 }
-}
-
-fn ended(mut e: Expected) -> Expected
-    ensures { result ≡ vectors.ended_number e }
-{
-    e.fresh = e.inside;
-    e.inside = false;
-    if e.fresh {
-        e.count = e.count.wrapping_add(1);
-    }
-    e
-}
-
-fn separator(mut e: Expected, byte: u8) -> Expected
-    ensures { result ≡ vectors.separated e byte }
-{
-    match byte {
-        b':' => {
-            e.closed = e.colons == 1;
-            e.colons = 1;
+    // One byte more; a line end ends the last number. The answer is the number that the byte ended, if it ended one.
+    pub fn take(&mut self, byte: u8) -> Option<u32>
+        ensures value { self.new ≡ told_with self.old byte }
+        ensures number { result ≡ number_told self.old byte }
+    {
+        if self.has_writing() {
+            return None;
         }
-        b' ' | b',' | b'=' | b'>' | b'R' | b'W' | b'\n' => {}
-        _ => e.wrong = true,
+        let Some(d) = digit(byte) else {
+            let ended = self.end_number();
+            self.separate(byte);
+            return ended;
+        };
+        self.figure(d);
+        None
     }
-    e
+
+    fn figure(&mut self, d: u32)
+        ensures { self.new ≡ vectors.with_figure self.old d }
+    {
+        match with_digit(self.inside.unwrap_or(0), d, u32::MAX) {
+            Some(n) => self.inside = Some(n),
+            None => self.wrong = true,
+        }
+    }
+
+    fn end_number(&mut self) -> Option<u32>
+        ensures value { self.new ≡ vectors.ended_number self.old }
+        ensures number { result ≡ self.old.inside }
+    {
+        let ended = self.inside.take();
+        if ended.is_some() {
+            self.count = self.count.wrapping_add(1);
+        }
+        ended
+    }
+
+    fn separate(&mut self, byte: u8)
+        ensures { self.new ≡ vectors.separated self.old byte }
+    {
+        match byte {
+            b':' => self.part = self.part.after_colon(),
+            b' ' | b',' | b'=' | b'>' | b'R' | b'W' | b'\n' => {}
+            _ => self.wrong = true,
+        }
+    }
 }

@@ -7,3 +7,4 @@ mod Tables
 mod Turning
 mod Fitness
 mod Answering
+pub mod Reasons

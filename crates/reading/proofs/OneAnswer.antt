@@ -2,18 +2,18 @@
 -- Assumes nothing.
 use Prim.Native.Nat.{ℕ, ◌-◌, ◌≤◌}
 use mathlib.Core.Bool.{Bool, ◌&&◌}
+use Rattle.std.specs.Prelude.{Option, None, Some, is_none}
 use mathlib.Core.List.{List, ◌++◌}
-use mathlib.Core.Path.{◌≡◌, sym, subst, ap, ◌∙◌}
+use mathlib.Core.Path.{ap₂, ◌≡◌, refl, sym, subst, ap, ◌∙◌}
 use mathlib.Core.Logic.{⊎_elim}
 use native.Mathlib.Nat.{eq-zero-or-pos}
 use native.Mathlib.Omega.{arith}
-use lib.Dec.{eqb}
-use lib.ListN.{length, take, drop, take-append-drop}
+use lib.ListN.{take, drop, take-append-drop}
 use Rattle.grammar.proofs.Promised.{one_reading, one_writing}
-use Rattle.reader.specs.Answers.{number, place, Plain}
-use Rattle.reader.specs.declared.Answer.{Answer}
-use Rattle.reader.specs.declared.Answer.TheVariants as answer
-use Rattle.report.specs.Tables.{FirstChanged}
+use Rattle.reader.specs.Answers.{Answer, number, place, Plain}
+use Rattle.reader.proofs.Reasons.{same_reason}
+use Rattle.std.specs.Prelude.{Ok, Err}
+use Rattle.report.specs.Tables.{FirstChanged, Changed}
 use Rattle.lines.specs.declared.Line.{Line}
 use Rattle.lines.specs.Forms.{table_of, out_kinds_of, out_texts_of}
 use Rattle.reading.specs.declared.Reading.{Reading}
@@ -31,6 +31,12 @@ no_later N from i j a b =
 one_change : (N : List ℕ) (from i j : ℕ) → FirstChanged N from i → FirstChanged N from j → i ≡ j
 one_change N from i j a b = omega (arith, no_later N from i j a b, no_later N from j i b a)
 
+one_found : (N : List ℕ) (from : ℕ) (r s : Option ℕ) → Changed N from r → Changed N from s → r ≡ s
+one_found N from None None a b = refl
+one_found N from None (Some j) a b = absurd (omega (arith, one_change N from _ _ a.first b.first, b.within))
+one_found N from (Some i) None a b = absurd (omega (arith, one_change N from _ _ a.first b.first, a.within))
+one_found N from (Some i) (Some j) a b = ap Some (one_change N from i j a.first b.first)
+
 one_list : (k : ℕ) (N L M : List ℕ) → take k L ≡ take k M → drop k L ≡ drop k N → drop k M ≡ drop k N → L ≡ M
 one_list k N L M front l m =
     sym (take-append-drop k L)
@@ -38,24 +44,21 @@ one_list k N L M front l m =
 
 -- ── of answers ──
 one_answer : (g h : Answer) → Plain g → Plain h → number g ≡ number h → place g ≡ place h → g ≡ h
-one_answer (answer.Accepted n) (answer.Accepted m) p q e f = ap answer.Accepted f
-one_answer (answer.Accepted n) (answer.Refused m i) p q e f = absurd (omega arith)
-one_answer (answer.Refused m i) (answer.Accepted n) p q e f = absurd (omega arith)
-one_answer (answer.Refused m i) (answer.Refused n j) p q e f = ap (λ (z : ℕ). answer.Refused z i) e ∙ ap (answer.Refused n) f
+one_answer (Ok n) (Ok m) p q e f = ap Ok f
+one_answer (Ok n) (Err r) p q e f = absurd (omega arith)
+one_answer (Err r) (Ok n) p q e f = absurd (omega arith)
+one_answer (Err r) (Err s) p q e f = ap₂ (λ w i. Err (record { why = w; place = i })) (same_reason r.why s.why e) f
 
-reading : ℕ → ℕ → ℕ → Bool → ℕ → Reading
-reading m p u k c = record { number = m; place = p; used = u; kept = k; changed = c }
+reading : ℕ → ℕ → ℕ → Option ℕ → Reading
+reading m p u c = record { number = m; place = p; used = u; changed = c }
 
 pub one_told : (m p n : ℕ) (N : List ℕ) (r s : Reading) → Told m p n N r → Told m p n N s → r ≡ s
 unfolding reading
 one_told m p n N r s a b =
-    let change : r.changed ≡ s.changed = one_change N n r.changed s.changed a.changed b.changed in
-    let kept : r.kept ≡ s.kept = a.kept ∙ (ap (λ (c : ℕ). eqb c (length N)) change ∙ sym b.kept) in
-    ap (λ (x : ℕ). reading x r.place r.used r.kept r.changed) (a.number ∙ sym b.number)
-    ∙ (ap (λ (x : ℕ). reading s.number x r.used r.kept r.changed) (a.place ∙ sym b.place)
-    ∙ (ap (λ (x : ℕ). reading s.number s.place x r.kept r.changed) (a.used ∙ sym b.used)
-    ∙ (ap (λ (x : Bool). reading s.number s.place s.used x r.changed) kept
-    ∙ ap (λ (x : ℕ). reading s.number s.place s.used s.kept x) change)))
+    ap (λ (x : ℕ). reading x r.place r.used r.changed) (a.number ∙ sym b.number)
+    ∙ (ap (λ (x : ℕ). reading s.number x r.used r.changed) (a.place ∙ sym b.place)
+    ∙ (ap (λ (x : ℕ). reading s.number s.place x r.changed) (a.used ∙ sym b.used)
+    ∙ ap (λ (x : Option ℕ). reading s.number s.place s.used x) (one_found N n _ _ a.changed b.changed)))
 
 writing : ℕ → ℕ → ℕ → Bool → Writing
 writing m p u k = record { number = m; place = p; used = u; kept = k }
@@ -63,12 +66,12 @@ writing m p u k = record { number = m; place = p; used = u; kept = k }
 pub one_telling : (m p n : ℕ) (A B : List ℕ) (v w : Writing) → Tells m p n A B v → Tells m p n A B w → v ≡ w
 unfolding writing
 one_telling m p n A B v w a b =
-    let kind : a.changed_kind ≡ b.changed_kind = one_change A n _ _ a.kinds b.kinds in
-    let text : a.changed_text ≡ b.changed_text = one_change B n _ _ a.texts b.texts in
+    let kind : a.changed_kind ≡ b.changed_kind = one_found A n _ _ a.kinds b.kinds in
+    let text : a.changed_text ≡ b.changed_text = one_found B n _ _ a.texts b.texts in
     let kept : v.kept ≡ w.kept =
     a.kept
-    ∙ (ap (λ (c : ℕ). eqb c (length A) && eqb a.changed_text (length B)) kind
-    ∙ (ap (λ (c : ℕ). eqb b.changed_kind (length A) && eqb c (length B)) text ∙ sym b.kept)) in
+    ∙ (ap (λ (c : Option ℕ). is_none c && is_none a.changed_text) kind
+    ∙ (ap (λ (c : Option ℕ). is_none b.changed_kind && is_none c) text ∙ sym b.kept)) in
     ap (λ (x : ℕ). writing x v.place v.used v.kept) (a.number ∙ sym b.number)
     ∙ (ap (λ (x : ℕ). writing w.number x v.used v.kept) (a.place ∙ sym b.place)
     ∙ (ap (λ (x : ℕ). writing w.number w.place x v.kept) (a.used ∙ sym b.used)

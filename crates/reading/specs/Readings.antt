@@ -1,17 +1,16 @@
 -- A reading as the programs see it: the reader's answer, and what it leaves in a node table.
-use Rattle.std.specs.Prelude.{ℕ, ◌*◌, ◌/◌, min, true, cond, List, ◌≡◌, eqb, length, take, drop}
+use Rattle.std.specs.Prelude.{Ok, Err, ℕ, ◌*◌, ◌/◌, min, None, List, ◌≡◌, length, take, drop}
+use Rattle.std.specs.Option.{option_map_or}
 use Rattle.grammar.specs.Sizes.{WIDTH}
 use Rattle.grammar.specs.Promise.{Reads}
-use Rattle.reader.specs.Answers.{number, place, Few, Plain}
-use Rattle.reader.specs.declared.Answer.{Answer}
-use Rattle.reader.specs.declared.Answer.TheVariants as answer
-use Rattle.report.specs.Tables.{FirstChanged}
+use Rattle.reader.specs.Answers.{Answer, number, place, Few, Plain}
+use Rattle.report.specs.Tables.{Changed}
 use Rattle.lines.specs.declared.Line.{Line}
 use Rattle.lines.specs.Forms.{table_of}
 use Rattle.reading.specs.declared.Reading.{Reading}
 
 abbrev pub no_reading : Reading
-no_reading = record { number = 0; place = 0; used = 0; kept = true; changed = 0 }
+no_reading = record { number = 0; place = 0; used = 0; changed = None }
 
 -- how many numbers `count` records have, of those that the table holds
 abbrev pub numbers_of : List ℕ → ℕ → ℕ
@@ -19,17 +18,16 @@ numbers_of N count = min count (length N / WIDTH) * WIDTH
 
 -- how many numbers of the table are records
 abbrev pub used_by : Answer → List ℕ → ℕ
-used_by (answer.Accepted count) N = numbers_of N count
-used_by (answer.Refused m p) N = 0
+used_by (Ok count) N = numbers_of N count
+used_by (Err r) N = 0
 
 -- what a reading tells of number m at place p, when the first n numbers of the table N are records
 pub record Told (m p n : ℕ) (N : List ℕ) (r : Reading) : Type 0 where
   pub number : r.number ≡ m
   pub place : r.place ≡ p
   pub used : r.used ≡ n
-  -- the first number beyond that is not clear, and whether there is none
-  pub changed : FirstChanged N n r.changed
-  pub kept : r.kept ≡ eqb r.changed (length N)
+  -- the first number beyond that is not clear, or that there is none
+  pub changed : Changed N n r.changed
 
 abbrev pub Left : Answer → List ℕ → Reading → Type 0
 Left got N r = Told (number got) (place got) (used_by got N) N r
@@ -49,4 +47,4 @@ pub record OfLine (line : Line) (K T N N' : List ℕ) (r : Reading) : Type 0 whe
 
 -- how many numbers are to be cleared after a reading: those of its records, or all, where it left more
 abbrev pub to_clear : Reading → List ℕ → ℕ
-to_clear r N = cond r.kept r.used (length N)
+to_clear r N = option_map_or (λ _. length N) r.changed r.used

@@ -1,18 +1,16 @@
 -- A writing as the programs see it: the writer's answer, and what it leaves in two lists.
-use Rattle.std.specs.Prelude.{ℕ, ◌&&◌, List, ◌≡◌, eqb, length, take, drop}
+use Rattle.std.specs.Prelude.{Ok, Err, ℕ, ◌&&◌, Option, is_none, List, ◌≡◌, take, drop}
 use Rattle.grammar.specs.Promise.{Writes}
-use Rattle.reader.specs.Answers.{number, place, Plain}
-use Rattle.reader.specs.declared.Answer.{Answer}
-use Rattle.reader.specs.declared.Answer.TheVariants as answer
-use Rattle.report.specs.Tables.{FirstChanged}
+use Rattle.reader.specs.Answers.{Answer, number, place, Plain}
+use Rattle.report.specs.Tables.{Changed}
 use Rattle.lines.specs.declared.Line.{Line}
 use Rattle.lines.specs.Forms.{table_of, out_kinds_of, out_texts_of}
 use Rattle.reading.specs.declared.writing.Writing.{Writing}
 
 -- how many numbers of each list are the writing
 abbrev pub written_by : Answer → ℕ
-written_by (answer.Accepted count) = count
-written_by (answer.Refused m p) = 0
+written_by (Ok count) = count
+written_by (Err r) = 0
 
 -- what a writing tells of number m at place p, when the first n numbers of A and B are the writing
 pub record Tells (m p n : ℕ) (A B : List ℕ) (w : Writing) : Type 0 where
@@ -20,11 +18,11 @@ pub record Tells (m p n : ℕ) (A B : List ℕ) (w : Writing) : Type 0 where
   pub place : w.place ≡ p
   pub used : w.used ≡ n
   -- the first numbers beyond that are not clear, and whether there is none
-  pub changed_kind : ℕ
-  pub changed_text : ℕ
-  pub kinds : FirstChanged A n changed_kind
-  pub texts : FirstChanged B n changed_text
-  pub kept : w.kept ≡ (eqb changed_kind (length A) && eqb changed_text (length B))
+  pub changed_kind : Option ℕ
+  pub changed_text : Option ℕ
+  pub kinds : Changed A n changed_kind
+  pub texts : Changed B n changed_text
+  pub kept : w.kept ≡ (is_none changed_kind && is_none changed_text)
 
 abbrev pub LeftIn : Answer → List ℕ → List ℕ → Writing → Type 0
 LeftIn got A B w = Tells (number got) (place got) (written_by got) A B w

@@ -10,7 +10,7 @@ ghost use Rattle.reading.specs.Readings.{no_reading, numbers_of, Told, Left, Rea
 
 use lines::Line;
 pub use places::{PLACES, put, read_places, write_places};
-use reader::Answer;
+use reader::Refusal;
 pub use reader::WIDTH;
 pub use writing::{Writing, written};
 
@@ -21,9 +21,8 @@ pub struct Reading {
     pub place: usize,
     // How many numbers of the table are the records.
     pub used: usize,
-    // Whether all numbers beyond are still clear; else the first that is not.
-    pub kept: bool,
-    pub changed: usize,
+    // The first number beyond that is not clear, if there is one.
+    pub changed: Option<usize>,
 }
 
 // No reading yet.
@@ -34,18 +33,17 @@ pub fn none() -> Reading
         number: 0,
         place: 0,
         used: 0,
-        kept: true,
-        changed: 0,
+        changed: None,
     }
 }
 
 // The answer, and what was left in the table.
-pub fn left(got: Answer, nodes: &[u32]) -> Reading
+pub fn left(got: Result<usize, Refusal>, nodes: &[u32]) -> Reading
     ensures { Left got nodes.now result }
 {
     match got {
-        Answer::Accepted(count) => beyond(0, count, nodes, numbers(nodes, count)),
-        Answer::Refused(n, place) => beyond(n, place, nodes, 0),
+        Ok(count) => beyond(0, count, nodes, numbers(nodes, count)),
+        Err(refusal) => beyond(refusal.why.number(), refusal.place, nodes, 0),
     }
 }
 
@@ -53,19 +51,17 @@ pub fn left(got: Answer, nodes: &[u32]) -> Reading
 fn numbers(nodes: &[u32], count: usize) -> usize
     ensures { result ≡ numbers_of nodes.now count }
 {
-    report::least(count, nodes.len() / WIDTH) * WIDTH
+    count.min(nodes.len() / WIDTH) * WIDTH
 }
 
 fn beyond(number: u32, place: usize, nodes: &[u32], used: usize) -> Reading
     ensures { Told number place used nodes.now result }
 {
-    let changed = report::changed(nodes, used);
     Reading {
         number,
         place,
         used,
-        kept: changed == nodes.len(),
-        changed,
+        changed: report::changed(nodes, used),
     }
 }
 
@@ -82,7 +78,7 @@ pub fn of_line<'a>(line: Line, kinds: &'a [u32], texts: &'a [u32], nodes: &mut [
 {
     let k = report::within(line.kinds, kinds);
     let t = report::within(line.texts, texts);
-    let n = report::within(lines::table(line) as usize, nodes);
+    let n = report::within(line.table() as usize, nodes);
     read(&kinds[..k], &texts[..t], &mut nodes[..n])
 }
 
@@ -90,9 +86,6 @@ pub fn of_line<'a>(line: Line, kinds: &'a [u32], texts: &'a [u32], nodes: &mut [
 pub fn clear(r: Reading, nodes: &mut [u32])
     ensures { Cleared nodes.old (to_clear r nodes.old) nodes.new }
 {
-    if r.kept {
-        report::clear(nodes, r.used);
-    } else {
-        report::clear(nodes, nodes.len());
-    }
+    let count = r.changed.map_or(r.used, |_| nodes.len());
+    report::clear(nodes, count);
 }

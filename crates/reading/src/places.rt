@@ -4,7 +4,7 @@ ghost use Rattle.grammar.specs.Promise.{Reads, Writes};
 ghost use Rattle.reader.specs.Answers.{number, place, Few, Plain};
 ghost use Rattle.reading.specs.Places.{placed};
 
-use reader::Answer;
+use reader::Refusal;
 
 pub const PLACES: usize = 4096;
 
@@ -23,7 +23,7 @@ pub fn read_places<'a>(
     texts: &'a [u32; PLACES],
     count: usize,
     nodes: &mut [u32; PLACES],
-) -> Answer
+) -> Result<usize, Refusal>
     ensures { Reads (take count kinds.now) (take count texts.now) nodes.old (number result) (place result) nodes.new × Few (take count kinds.now) (place result) × Plain result }
 {
     let k: &[u32] = kinds;
@@ -41,7 +41,7 @@ pub fn write_places<'a>(
     nodes: &mut [u32; PLACES],
     out_kinds: &mut [u32; PLACES],
     out_texts: &mut [u32; PLACES],
-) -> Answer
+) -> Result<usize, Refusal>
     ensures { Writes (take count kinds.now) (take count texts.now) nodes.old out_kinds.old out_texts.old (number result) (place result) nodes.new out_kinds.new out_texts.new × Plain result }
 {
     let k: &[u32] = kinds;

@@ -2,7 +2,7 @@
 ghost use Rattle.reading.specs.Writings.{Tells, LeftIn, Written};
 
 use lines::Line;
-use reader::Answer;
+use reader::Refusal;
 
 #[derive(Clone, Copy)]
 pub struct Writing {
@@ -16,12 +16,12 @@ pub struct Writing {
 }
 
 // The answer, and what was left in the lists.
-fn left<'a>(got: Answer, out_kinds: &'a [u32], out_texts: &'a [u32]) -> Writing
+fn left<'a>(got: Result<usize, Refusal>, out_kinds: &'a [u32], out_texts: &'a [u32]) -> Writing
     ensures { LeftIn got out_kinds.now out_texts.now result }
 {
     match got {
-        Answer::Accepted(count) => beyond(0, count, count, out_kinds, out_texts),
-        Answer::Refused(n, place) => beyond(n, place, 0, out_kinds, out_texts),
+        Ok(count) => beyond(0, count, count, out_kinds, out_texts),
+        Err(refusal) => beyond(refusal.why.number(), refusal.place, 0, out_kinds, out_texts),
     }
 }
 
@@ -34,13 +34,13 @@ fn beyond<'a>(
 ) -> Writing
     ensures { Tells number place used out_kinds.now out_texts.now result }
 {
-    let k = report::changed(out_kinds, used);
-    let t = report::changed(out_texts, used);
+    let kind = report::changed(out_kinds, used);
+    let text = report::changed(out_texts, used);
     Writing {
         number,
         place,
         used,
-        kept: k == out_kinds.len() && t == out_texts.len(),
+        kept: kind.is_none() && text.is_none(),
     }
 }
 
@@ -58,9 +58,9 @@ pub fn written<'a>(
 {
     let k = report::within(line.kinds, kinds);
     let t = report::within(line.texts, texts);
-    let n = report::within(lines::table(line) as usize, nodes);
-    let a = report::within(lines::out_kinds(line) as usize, out_kinds);
-    let b = report::within(lines::out_texts(line) as usize, out_texts);
+    let n = report::within(line.table() as usize, nodes);
+    let a = report::within(line.out_kinds() as usize, out_kinds);
+    let b = report::within(line.out_texts() as usize, out_texts);
     let got = writer::write(
         &kinds[..k],
         &texts[..t],

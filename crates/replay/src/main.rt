@@ -52,11 +52,11 @@ fn taking(line: Line) -> Case {
         line,
         is_read: false,
         reading: reading::none(),
-        expected: lines::expecting(),
+        expected: Expected::new(),
         right: true,
         number: 0,
         place: 0,
-        writing: lines::begun(),
+        writing: Line::new(),
     }
 }
 
@@ -67,11 +67,11 @@ fn read<'a>(line: Line, kinds: &'a [u32], texts: &'a [u32], nodes: &mut [u32]) -
         line,
         is_read: true,
         reading,
-        expected: lines::expecting(),
+        expected: Expected::new(),
         right: reading.kept,
         number: 0,
         place: 0,
-        writing: lines::begun(),
+        writing: Line::new(),
     }
 }
 
@@ -79,18 +79,19 @@ fn read<'a>(line: Line, kinds: &'a [u32], texts: &'a [u32], nodes: &mut [u32]) -
 fn told(case: Case) -> usize {
     let line = case.line;
     let r = case.reading;
-    if lines::is_room(line) { 0 } else { r.used }
+    if line.is_room() { 0 } else { r.used }
 }
 
 // A byte of the command; `=` after it ends it.
 fn commanded(case: Case, b: u8, kinds: &mut [u32], texts: &mut [u32], nodes: &mut [u32]) -> Case {
-    let line = case.line;
+    let mut line = case.line;
     if b == b'=' {
-        if lines::may_end(line) {
+        if line.may_end() {
             return read(line, kinds, texts, nodes);
         }
     }
-    taking(lines::taken(line, b, kinds, texts))
+    line.take(b, kinds, texts);
+    taking(line)
 }
 
 // Whether the number that the answer tells as the `count`th is what the reader said.
@@ -117,7 +118,7 @@ fn is_at(n: u32, nodes: &[u32], i: usize, end: usize) -> bool {
 // A number of the answer, its `count`th; the third and the fourth of the second form are the writer's.
 fn compared(mut case: Case, count: usize, n: u32, nodes: &[u32]) -> Case {
     let line = case.line;
-    if lines::is_room(line) {
+    if line.is_room() {
         if count > 2 {
             return asked(case, count, n);
         }
@@ -139,19 +140,15 @@ fn asked(mut case: Case, count: usize, n: u32) -> Case {
 
 // A byte of the answer, before the writing.
 fn checked(mut case: Case, b: u8, nodes: &[u32]) -> Case {
-    let before = case.expected;
-    let now = lines::told(before, b);
-    case.expected = now;
-    if lines::has_number(now) {
-        return compared(case, now.count, now.number, nodes);
+    if let Some(n) = case.expected.take(b) {
+        return compared(case, case.expected.count, n, nodes);
     }
     case
 }
 
 // A byte of the writing.
 fn copied(mut case: Case, b: u8, wanted_kinds: &mut [u32], wanted_texts: &mut [u32]) -> Case {
-    let before = case.writing;
-    case.writing = lines::taken(before, b, wanted_kinds, wanted_texts);
+    case.writing.take(b, wanted_kinds, wanted_texts);
     case
 }
 
@@ -159,7 +156,7 @@ fn copied(mut case: Case, b: u8, wanted_kinds: &mut [u32], wanted_texts: &mut [u
 fn is_right(case: Case) -> bool {
     let e = case.expected;
     let line = case.line;
-    let most = if lines::is_room(line) { 2 } else { told(case) };
+    let most = if line.is_room() { 2 } else { told(case) };
     let rest = e.count.wrapping_sub(2);
     case.is_read && case.right && !e.wrong && rest == most
 }
@@ -187,7 +184,7 @@ fn is_said(case: Case, w: Writing) -> bool {
     let line = case.line;
     let r = case.reading;
     let writing = case.writing;
-    if lines::is_room(line) {
+    if line.is_room() {
         return w.number == case.number && w.place == case.place as usize;
     }
     let place = if w.number == 0 {
@@ -195,7 +192,7 @@ fn is_said(case: Case, w: Writing) -> bool {
     } else {
         r.place
     };
-    lines::may_end(writing) && w.used == writing.kinds && w.number == r.number && w.place == place
+    writing.may_end() && w.used == writing.kinds && w.number == r.number && w.place == place
 }
 
 // Whether the table holds the reading again where the writer accepts, or has too little room for the writing alone,
@@ -326,7 +323,7 @@ fn is_same<'a>(
     wanted_kinds: &'a [u32],
     wanted_texts: &'a [u32],
 ) -> bool {
-    if lines::is_room(line) {
+    if line.is_room() {
         return true;
     }
     let k = same(out_kinds, wanted_kinds, w.used);
@@ -366,8 +363,7 @@ fn within_line(
     wanted_kinds: &mut [u32],
     wanted_texts: &mut [u32],
 ) -> Case {
-    let e = case.expected;
-    if lines::has_writing(e) {
+    if case.expected.has_writing() {
         return copied(case, b, wanted_kinds, wanted_texts);
     }
     if case.is_read {
@@ -394,7 +390,7 @@ fn one(
         let last = checked(case, b, nodes);
         let read = judged(out, last, tally, nodes, block);
         return Now {
-            case: taking(lines::begun()),
+            case: taking(Line::new()),
             tally: written(
                 out,
                 last,
@@ -500,7 +496,7 @@ fn begun(waiting: usize) -> Now {
         more: true,
     };
     Now {
-        case: taking(lines::begun()),
+        case: taking(Line::new()),
         tally,
     }
 }

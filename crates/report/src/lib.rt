@@ -9,7 +9,7 @@ ghost use Rattle.std.specs.Prelude.{◌≡◌, ◌≤◌, min, length};
 ghost use Rattle.io.specs.Counts.{IsPrefixLen};
 ghost use Rattle.report.specs.Digests.{mixed_of};
 
-pub use output::{BLOCK, byte, bytes, flush, number};
+pub use output::{BLOCK, Output};
 pub use table::{changed, clear, digest};
 
 const MODULUS: u64 = 4294967296;
@@ -23,24 +23,10 @@ pub fn mixed(digest: u64, n: u64) -> u64
     (digest % MODULUS * FACTOR + n % MODULUS) % MODULUS
 }
 
-pub fn wide(n: u32) -> u64
-    ensures { result ≡ n }
-{
-    n as u64
-}
-
-pub fn least(a: usize, b: usize) -> usize
-    ensures value { result ≡ min a b }
-    ensures upper_bound { result ≤ a }
-    ensures upper_bound_2 { result ≤ b }
-{
-    if a < b { a } else { b }
-}
-
 // `count`, or the length of the list where it is shorter: `&list[..n]` may then be lent.
 pub fn within(count: usize, list: &[u32]) -> usize
     ensures value { result ≡ min count (length list.now) }
     ensures prefix_len { IsPrefixLen result list.now }
 {
-    least(count, list.len())
+    count.min(list.len())
 }

@@ -1,48 +1,97 @@
-// Bytes for standard output, gathered in a block and written when it is full. Each function takes where bytes go
-// and how many bytes of the block wait, and answers how many wait then. A write that fails is passed over.
-ghost use Rattle.std.specs.Prelude.{◌≡◌, ◌+◌};
+// Output, gathered in a block and written when it is full. A write that fails is passed over, so that nothing here
+// fails.
+ghost use Rattle.std.specs.Prelude.{◌≡◌, ◌+◌, IsOk, replicate};
 ghost use Rattle.report.specs.Blocks.{place_in, block_with, waiting_after, block_after, Shows};
+
+use std::fmt;
 
 pub const BLOCK: usize = 65536;
 
-pub fn byte(out: &impl Print, block: &mut [u8; BLOCK], waiting: usize, b: u8) -> usize
-    ensures value { result ≡ place_in waiting + 1 }
-    ensures block_after { block.new ≡ block_with block.old waiting b }
-{
-    if waiting < BLOCK {
-        block[waiting] = b;
-        return waiting + 1;
+// Where bytes go, and the block, of which the first `waiting` bytes are yet to be written.
+pub struct Output<'a, P: Print> {
+    pub to: &'a P,
+    pub block: [u8; BLOCK],
+    pub waiting: usize,
+}
+
+impl<'a, P: Print> Output<'a, P> {
+    pub fn new(to: &'a P) -> Self
+        ensures to { result.to ≡ to.entry }
+        ensures block { result.block ≡ replicate 65536 0 }
+        ensures waiting { result.waiting ≡ 0 }
+    {
+        Output {
+            to,
+            block: [0; BLOCK],
+            waiting: 0,
+        }
     }
-    flush(out, block, BLOCK);
-    block[0] = b;
-    1
-}
 
-pub fn bytes(out: &impl Print, block: &mut [u8; BLOCK], waiting: usize, s: &[u8]) -> usize
-    ensures value { result ≡ waiting_after waiting s.now }
-    ensures block_after { block.new ≡ block_after block.old waiting s.now }
-{
-    let mut now = waiting;
-    let mut i = 0;
-    while i < s.len() {
-        now = byte(out, block, now, s[i]);
-        i += 1;
+    pub fn byte(&mut self, b: u8)
+        ensures waiting { self.new.waiting ≡ place_in self.old.waiting + 1 }
+        ensures block { self.new.block ≡ block_with self.old.block self.old.waiting b }
+        ensures to { self.new.to ≡ self.old.to }
+    {
+        if self.waiting >= BLOCK {
+            self.flush();
+        }
+        self.block[self.waiting] = b;
+        self.waiting += 1;
     }
-    now
+
+    pub fn bytes(&mut self, s: &[u8])
+        ensures waiting { self.new.waiting ≡ waiting_after self.old.waiting s.now }
+        ensures block { self.new.block ≡ block_after self.old.block self.old.waiting s.now }
+        ensures to { self.new.to ≡ self.old.to }
+    {
+        for b in s {
+            self.byte(*b);
+        }
+    }
+
+    // The decimal digits of a number.
+    pub fn number(&mut self, n: u64)
+        ensures shows { Shows self.old.block self.old.waiting n self.new.waiting self.new.block }
+        ensures to { self.new.to ≡ self.old.to }
+    {
+        let mut text = [0u8; 20];
+        let k = io::decimal(n, &mut text);
+        self.bytes(&text[..k]);
+    }
+
+    // Writes what waits.
+    pub fn flush(&mut self)
+        ensures waiting { self.new.waiting ≡ 0 }
+        ensures block { self.new.block ≡ self.old.block }
+        ensures to { self.new.to ≡ self.old.to }
+    {
+        let n = self.waiting.min(BLOCK);
+        let _ = self.to.write_all(&self.block[..n]);
+        self.waiting = 0;
+    }
 }
 
-// The decimal digits of a number.
-pub fn number(out: &impl Print, block: &mut [u8; BLOCK], waiting: usize, n: u64) -> usize
-    ensures { Shows block.old waiting n result block.new }
-{
-    let mut text = [0u8; 20];
-    let k = io::decimal(n, &mut text);
-    bytes(out, block, waiting, &text[..k])
+impl<'a, P: Print> fmt::Write for Output<'a, P> {
+    ghost write_str_gives = { λ old s new. (new.waiting ≡ waiting_after old.waiting s) × (new.block ≡ block_after old.block old.waiting s) };
+
+    // Never fails.
+    fn write_str(&mut self, s: &str) -> fmt::Result
+        ensures ok { IsOk result → (self.new.waiting ≡ waiting_after self.old.waiting s.now) × (self.new.block ≡ block_after self.old.block self.old.waiting s.now) }
+        ensures never_fails { IsOk result }
+        ensures to { self.new.to ≡ self.old.to }
+    {
+        self.bytes(s.as_bytes());
+        Ok(())
+    }
 }
 
-// Writes what waits.
-pub fn flush(out: &impl Print, block: &[u8; BLOCK], waiting: usize) {
-    let all: &[u8] = block;
-    let n = crate::least(waiting, all.len());
-    let _ = out.write_all(&all[..n]);
+// What waits then is not written: that is for `flush`.
+impl<'a, P: Print> Drop for Output<'a, P> {
+    fn drop(self) {
+        let Output {
+            to: _,
+            block: _,
+            waiting: _,
+        } = self;
+    }
 }

@@ -6,7 +6,6 @@ use kinds::{
     ALL, COMMA, EQ, FROM, HAVING, ID, IN, INTEGER, JOIN, JOIN_KW, LIMIT, LP, NOT, PLUS, RP, SELECT,
     SEMI, STAR, VALUES,
 };
-use reader::Answer;
 use reading::PLACES;
 use std::io::Result;
 use words::{INNER, LEFT, OUTER};
@@ -115,7 +114,7 @@ impl Command {
             r.place,
             report::digest(0, &nodes, r.used)
         )?;
-        if !r.kept {
+        if r.changed.is_some() {
             print!(out; " and the table is changed beyond")?;
         }
         Ok(())
@@ -134,13 +133,13 @@ impl Command {
             &mut written.texts,
         );
         match got {
-            Answer::Accepted(count) => {
+            Ok(count) => {
                 print!(out; " :")?;
                 written.count = count;
                 written.show_tokens(out)?;
             }
-            Answer::Refused(number, place) => {
-                print!(out; ", not written: {number} {place}")?;
+            Err(refusal) => {
+                print!(out; ", not written: {} {}", refusal.why.number(), refusal.place)?;
             }
         }
         println!(out; "")

@@ -3,8 +3,8 @@
 use Rattle.reading.proofs.Passed.{left_written, left_unwritten}
 use Rattle.reading.proofs.writing.left.Goals as goal
 
-pub returns-in-Accepted : goal.returns-in-Accepted
-returns-in-Accepted c = left_written c.in-Accepted.is c.beyond.ensures
+pub returns-in-Ok : goal.returns-in-Ok
+returns-in-Ok c = left_written c.in-Ok.is c.beyond.ensures
 
-pub returns-in-Refused : goal.returns-in-Refused
-returns-in-Refused c = left_unwritten c.in-Refused.is c.beyond-in-Refused.ensures
+pub returns-in-Err : goal.returns-in-Err
+returns-in-Err c = left_unwritten c.in-Err.is c.number.ensures c.beyond-in-Err.ensures

@@ -1,7 +1,0 @@
--- `report::output::number` meets its contract: the bytes that `decimal` made of the number are its digits.
--- Assumes nothing.
-use Rattle.report.proofs.BlockSteps.{shown}
-use Rattle.report.proofs.output.number.Goals as goal
-
-pub returns : goal.returns
-returns g c = shown c.decimal-k.ensures.len c.decimal-k.ensures.digits c.bytes.ensures.value c.bytes.ensures.block_after
