@@ -131,8 +131,13 @@ impl<'a, P: Print, E: Print> Asker<'a, P, E> {
 
     // The answer to a line of the first form, with the records and the writing of an acceptance.
     fn write_full(&mut self, reading: Reading) -> fmt::Result {
-        write!(self.out, "{} {}", reading.number, reading.place)?;
-        if reading.number > 0 {
+        write!(
+            self.out,
+            "{} {}",
+            reading::number(reading.got),
+            reading::place(reading.got)
+        )?;
+        if reading.got.is_err() {
             return writeln!(self.out);
         }
         write!(self.out, " :")?;
@@ -146,19 +151,27 @@ impl<'a, P: Print, E: Print> Asker<'a, P, E> {
 
     // To one of the second form.
     fn write_short(&mut self, reading: Reading) -> fmt::Result {
-        write!(self.out, "R {} {}", reading.number, reading.place)?;
+        write!(
+            self.out,
+            "R {} {}",
+            reading::number(reading.got),
+            reading::place(reading.got)
+        )?;
         writing::tell(&mut self.out, &self.command, &mut self.nodes, Form::Short)
     }
 
     // In words: a refusal with its token, an accepted reading as a tree with the writing below it.
     fn write_words(&mut self, reading: Reading) -> fmt::Result {
         write!(self.out, "line {}: ", self.row)?;
-        if reading.number > 0 {
-            let command = &self.command;
-            return writeln!(self.out, "{}", Refused { reading, command });
-        }
-        writeln!(self.out, "accepted, {}", Many(reading.place, "record"))?;
-        tree::draw(&mut self.out, &self.nodes, reading.place)?;
+        let count = match reading.got {
+            Ok(count) => count,
+            Err(refusal) => {
+                let command = &self.command;
+                return writeln!(self.out, "{}", Refused { refusal, command });
+            }
+        };
+        writeln!(self.out, "accepted, {}", Many(count, "record"))?;
+        tree::draw(&mut self.out, &self.nodes, count)?;
         writing::tell(&mut self.out, &self.command, &mut self.nodes, Form::Words)
     }
 }

@@ -2,7 +2,7 @@
 use crate::names;
 use kinds::{JOIN_KW, LIKE_KW};
 use lines::{Command, Line};
-use reading::Reading;
+use reader::{Reason, Refusal};
 use std::fmt;
 
 // The number at a place of a list, 0 beyond its end.
@@ -24,22 +24,22 @@ impl fmt::Display for Many {
 // The refusal of a command.
 #[derive(Clone, Copy)]
 pub struct Refused<'a> {
-    pub reading: Reading,
+    pub refusal: Refusal,
     pub command: &'a Command,
 }
 
 impl fmt::Display for Refused<'_> {
     fn fmt<W: fmt::Write>(&self, f: &mut fmt::Formatter<W>) -> fmt::Result {
-        let number = self.reading.number;
-        let place = self.reading.place;
-        write!(f, "refusal {number}")?;
-        // Numbers, as document 01 has them: a reading holds the reader's.
-        match number {
-            1 => lengths(f, self.command.line()),
-            4 | 9 | 10 => f.write(Missing { number, place }),
+        let Refusal { why, place } = self.refusal;
+        write!(f, "refusal {}", why.number())?;
+        match why {
+            Reason::Lengths => lengths(f, self.command.line()),
+            Reason::Unfinished | Reason::TableShort | Reason::OutputShort => {
+                f.write(Missing(self.refusal))
+            }
             _ => {
                 write!(f, ", token {place}: ")?;
-                token(f, number, place, self.command)
+                token(f, why, place, self.command)
             }
         }
     }
@@ -63,21 +63,18 @@ fn lengths<W: fmt::Write>(f: &mut fmt::Formatter<W>, line: &Line) -> fmt::Result
 
 // What there is too little of. The place is how much there is, or would have to be.
 #[derive(Clone, Copy)]
-pub struct Missing {
-    pub number: u32,
-    pub place: usize,
-}
+pub struct Missing(pub Refusal);
 
 impl fmt::Display for Missing {
     fn fmt<W: fmt::Write>(&self, f: &mut fmt::Formatter<W>) -> fmt::Result {
-        let place = self.place;
-        match self.number {
-            4 => write!(
+        let Refusal { why, place } = self.0;
+        match why {
+            Reason::Unfinished => write!(
                 f,
                 ": the command ends too soon, after {}",
                 Many(place, "token")
             ),
-            9 => write!(
+            Reason::TableShort => write!(
                 f,
                 ": the node table is too short for {}",
                 Many(place, "record")
@@ -94,19 +91,23 @@ impl fmt::Display for Missing {
 // The place is that of a token.
 fn token<W: fmt::Write>(
     f: &mut fmt::Formatter<W>,
-    number: u32,
+    why: Reason,
     place: usize,
     command: &Command,
 ) -> fmt::Result {
     let kind = at(command.kinds(), place);
-    match number {
-        2 => unfit(f, kind, at(command.texts(), place)),
-        3 if place == 0 => write!(f, "{} can't begin a command", names::kind(kind)),
-        3 => write!(f, "{} can't follow", names::kind(kind)),
-        5 => f.write_str("a level-65 expression starts, 64 are the most"),
-        6 => f.write_str("a 17th query opens, 16 are the most"),
-        7 => f.write(Clash::before(command, place)),
-        8 => f.write_str("row length differs from the first row's"),
+    match why {
+        Reason::Unfit => unfit(f, kind, at(command.texts(), place)),
+        Reason::CannotFollow if place == 0 => write!(
+            f,
+            "{} can't begin a command",
+            names::kind(kind)
+        ),
+        Reason::CannotFollow => write!(f, "{} can't follow", names::kind(kind)),
+        Reason::TooDeep => f.write_str("a level-65 expression starts, 64 are the most"),
+        Reason::TooManyQueries => f.write_str("a 17th query opens, 16 are the most"),
+        Reason::JoinFlags => f.write(Clash::before(command, place)),
+        Reason::RowLength => f.write_str("row length differs from the first row's"),
         _ => f.write_str("refused"),
     }
 }

@@ -3,7 +3,7 @@ use crate::names::{join_word, like, operator};
 use crate::refusals::Missing;
 use kinds::{COMMA, DOT, ID, INDEXED, JOIN_KW, LIKE_KW, LP, RP};
 use lines::Command;
-use reading::Writing;
+use reader::{Reason, Refusal};
 use std::fmt;
 
 // The forms of an answer: in numbers after the records, or after those of the reader, or in words.
@@ -68,13 +68,12 @@ impl fmt::Display for Words {
 }
 
 // Why there is no writing of a command that was read: its lists have too little room, or differ.
-fn none<W: fmt::Write>(out: &mut W, w: Writing) -> fmt::Result {
-    let Writing { number, place, .. } = w;
-    write!(out, "  no writing: refusal {number}")?;
-    if number == 1 {
+fn none<W: fmt::Write>(out: &mut W, refusal: Refusal) -> fmt::Result {
+    write!(out, "  no writing: refusal {}", refusal.why.number())?;
+    if refusal.why == Reason::Lengths {
         write!(out, ": the writer's outputs differ in length")
     } else {
-        write!(out, "{}", Missing { number, place })
+        write!(out, "{}", Missing(refusal))
     }
 }
 
@@ -105,20 +104,27 @@ pub fn tell<W: fmt::Write>(
         return writeln!(out, " ! output changed beyond the writing");
     }
     match form {
-        Form::Short => write!(out, " W {} {}", w.number, w.place)?,
+        Form::Short => write!(
+            out,
+            " W {} {}",
+            reading::number(w.got),
+            reading::place(w.got)
+        )?,
         Form::Full => {
             write!(out, " :")?;
             for (kind, text) in tokens {
                 write!(out, " {}", Numbers { kind, text })?;
             }
         }
-        Form::Words if w.number > 0 => none(out, w)?,
-        Form::Words => {
-            write!(out, "  writing:")?;
-            for (kind, text) in tokens {
-                write!(out, " {}", Words { kind, text })?;
+        Form::Words => match w.got {
+            Err(refusal) => none(out, refusal)?,
+            Ok(_) => {
+                write!(out, "  writing:")?;
+                for (kind, text) in tokens {
+                    write!(out, " {}", Words { kind, text })?;
+                }
             }
-        }
+        },
     }
     writeln!(out)
 }

@@ -10,7 +10,7 @@ use Rattle.lines.specs.Forms.{table_of}
 use Rattle.reading.specs.declared.Reading.{Reading}
 
 abbrev pub no_reading : Reading
-no_reading = record { number = 0; place = 0; used = 0; changed = None }
+no_reading = record { got = Ok 0; used = 0; changed = None }
 
 -- how many numbers `count` records have, of those that the table holds
 abbrev pub numbers_of : List ℕ → ℕ → ℕ
@@ -21,16 +21,12 @@ abbrev pub used_by : Answer → List ℕ → ℕ
 used_by (Ok count) N = numbers_of N count
 used_by (Err r) N = 0
 
--- what a reading tells of number m at place p, when the first n numbers of the table N are records
-pub record Told (m p n : ℕ) (N : List ℕ) (r : Reading) : Type 0 where
-  pub number : r.number ≡ m
-  pub place : r.place ≡ p
-  pub used : r.used ≡ n
+-- what a reading tells of an answer and of the table N that it left
+pub record Left (got : Answer) (N : List ℕ) (r : Reading) : Type 0 where
+  pub told : r.got ≡ got
+  pub used : r.used ≡ used_by got N
   -- the first number beyond that is not clear, or that there is none
-  pub changed : Changed N n r.changed
-
-abbrev pub Left : Answer → List ℕ → Reading → Type 0
-Left got N r = Told (number got) (place got) (used_by got N) N r
+  pub changed : Changed N (used_by got N) r.changed
 
 -- the reader's answer by its promise, and what it leaves
 pub record ReadIn (K T N N' : List ℕ) (r : Reading) : Type 0 where

@@ -12,20 +12,16 @@ abbrev pub written_by : Answer → ℕ
 written_by (Ok count) = count
 written_by (Err r) = 0
 
--- what a writing tells of number m at place p, when the first n numbers of A and B are the writing
-pub record Tells (m p n : ℕ) (A B : List ℕ) (w : Writing) : Type 0 where
-  pub number : w.number ≡ m
-  pub place : w.place ≡ p
-  pub used : w.used ≡ n
+-- what a writing tells of an answer and of the lists A and B that it left
+pub record LeftIn (got : Answer) (A B : List ℕ) (w : Writing) : Type 0 where
+  pub told : w.got ≡ got
+  pub used : w.used ≡ written_by got
   -- the first numbers beyond that are not clear, and whether there is none
   pub changed_kind : Option ℕ
   pub changed_text : Option ℕ
-  pub kinds : Changed A n changed_kind
-  pub texts : Changed B n changed_text
+  pub kinds : Changed A (written_by got) changed_kind
+  pub texts : Changed B (written_by got) changed_text
   pub kept : w.kept ≡ (is_none changed_kind && is_none changed_text)
-
-abbrev pub LeftIn : Answer → List ℕ → List ℕ → Writing → Type 0
-LeftIn got A B w = Tells (number got) (place got) (written_by got) A B w
 
 -- the command of a line: the writer's promise for as much of each list as the line says, what is beyond as it was
 pub record Written (line : Line) (K T N A B N' A' B' : List ℕ) (w : Writing) : Type 0 where

@@ -6,7 +6,8 @@ mod writing;
 
 ghost use Rattle.std.specs.Prelude.{◌≡◌};
 ghost use Rattle.report.specs.Tables.{Cleared};
-ghost use Rattle.reading.specs.Readings.{no_reading, numbers_of, Told, Left, ReadIn, OfLine, to_clear};
+ghost use Rattle.reading.specs.Readings.{no_reading, used_by, Left, ReadIn, OfLine, to_clear};
+ghost use Rattle.reader.specs.Answers.{number, place};
 
 use lines::Line;
 pub use places::{PLACES, put, read_places, write_places};
@@ -16,9 +17,8 @@ pub use writing::{Writing, written};
 
 #[derive(Clone, Copy)]
 pub struct Reading {
-    // 0 for acceptance.
-    pub number: u32,
-    pub place: usize,
+    // How many records there are, or why the command is refused.
+    pub got: Result<usize, Refusal>,
     // How many numbers of the table are the records.
     pub used: usize,
     // The first number beyond that is not clear, if there is one.
@@ -30,10 +30,28 @@ pub fn none() -> Reading
     ensures { result ≡ no_reading }
 {
     Reading {
-        number: 0,
-        place: 0,
+        got: Ok(0),
         used: 0,
         changed: None,
+    }
+}
+
+// 01's number of an answer, and its place.
+pub fn number(got: Result<usize, Refusal>) -> u32
+    ensures { result ≡ number got }
+{
+    match got {
+        Ok(_) => 0,
+        Err(refusal) => refusal.why.number(),
+    }
+}
+
+pub fn place(got: Result<usize, Refusal>) -> usize
+    ensures { result ≡ place got }
+{
+    match got {
+        Ok(count) => count,
+        Err(refusal) => refusal.place,
     }
 }
 
@@ -41,27 +59,21 @@ pub fn none() -> Reading
 pub fn left(got: Result<usize, Refusal>, nodes: &[u32]) -> Reading
     ensures { Left got nodes.now result }
 {
-    match got {
-        Ok(count) => beyond(0, count, nodes, numbers(nodes, count)),
-        Err(refusal) => beyond(refusal.why.number(), refusal.place, nodes, 0),
+    let used = used(got, nodes);
+    Reading {
+        got,
+        used,
+        changed: report::changed(nodes, used),
     }
 }
 
-// How many numbers `count` records have, of those that the table holds.
-fn numbers(nodes: &[u32], count: usize) -> usize
-    ensures { result ≡ numbers_of nodes.now count }
+// How many numbers the records have, of those that the table holds.
+fn used(got: Result<usize, Refusal>, nodes: &[u32]) -> usize
+    ensures { result ≡ used_by got nodes.now }
 {
-    count.min(nodes.len() / WIDTH) * WIDTH
-}
-
-fn beyond(number: u32, place: usize, nodes: &[u32], used: usize) -> Reading
-    ensures { Told number place used nodes.now result }
-{
-    Reading {
-        number,
-        place,
-        used,
-        changed: report::changed(nodes, used),
+    match got {
+        Ok(count) => count.min(nodes.len() / WIDTH) * WIDTH,
+        Err(_) => 0,
     }
 }
 

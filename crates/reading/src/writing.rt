@@ -1,14 +1,13 @@
 // A writing as the programs see it: what the writer says, and what it leaves in two lists that were clear.
-ghost use Rattle.reading.specs.Writings.{Tells, LeftIn, Written};
+ghost use Rattle.reading.specs.Writings.{LeftIn, Written};
 
 use lines::Line;
 use reader::Refusal;
 
 #[derive(Clone, Copy)]
 pub struct Writing {
-    // 0 for acceptance.
-    pub number: u32,
-    pub place: usize,
+    // How many tokens there are, or why there is no writing.
+    pub got: Result<usize, Refusal>,
     // How many numbers of each list are the writing.
     pub used: usize,
     // Whether all numbers beyond are still clear.
@@ -19,26 +18,11 @@ pub struct Writing {
 fn left<'a>(got: Result<usize, Refusal>, out_kinds: &'a [u32], out_texts: &'a [u32]) -> Writing
     ensures { LeftIn got out_kinds.now out_texts.now result }
 {
-    match got {
-        Ok(count) => beyond(0, count, count, out_kinds, out_texts),
-        Err(refusal) => beyond(refusal.why.number(), refusal.place, 0, out_kinds, out_texts),
-    }
-}
-
-fn beyond<'a>(
-    number: u32,
-    place: usize,
-    used: usize,
-    out_kinds: &'a [u32],
-    out_texts: &'a [u32],
-) -> Writing
-    ensures { Tells number place used out_kinds.now out_texts.now result }
-{
+    let used = got.unwrap_or(0);
     let kind = report::changed(out_kinds, used);
     let text = report::changed(out_texts, used);
     Writing {
-        number,
-        place,
+        got,
         used,
         kept: kind.is_none() && text.is_none(),
     }

@@ -110,8 +110,8 @@ impl Command {
         let r = reading::left(got, &nodes);
         print!(out;
             "{name} {} {} {}",
-            r.number,
-            r.place,
+            reading::number(r.got),
+            reading::place(r.got),
             report::digest(0, &nodes, r.used)
         )?;
         if r.changed.is_some() {
