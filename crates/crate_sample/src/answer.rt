@@ -32,8 +32,8 @@ impl Answer {
     fn agrees(&self, n: u32, nodes: &[u32]) -> bool {
         match self.expected.count {
             0 => false,
-            1 => n == self.reading.number,
-            2 => n as usize == self.reading.place,
+            1 => n == reading::number(self.reading.got),
+            2 => n as usize == reading::place(self.reading.got),
             count => nodes.iter().take(self.reading.used).nth(count - 3) == Some(&n),
         }
     }

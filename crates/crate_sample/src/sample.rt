@@ -99,8 +99,8 @@ impl<'a, P: Print> Sample<'a, P> {
     // What a line adds to the counts. The table is clear again.
     fn judge(&mut self) {
         let reading = self.part.reading().unwrap_or(reading::none());
-        let number = reading.number;
-        let place = reading.place;
+        let number = reading::number(reading.got);
+        let place = reading::place(reading.got);
         let said = mixed(mixed(self.digest, u64::from(number)), place as u64);
         self.digest = report::digest(said, &self.nodes, reading.used);
         reading::clear(reading, &mut self.nodes);

@@ -82,8 +82,8 @@ impl Answer {
     fn agrees(&self, count: usize, n: u32, nodes: &[u32]) -> bool {
         match count {
             0 => false,
-            1 => n == self.reading.number,
-            2 => n as usize == self.reading.place,
+            1 => n == reading::number(self.reading.got),
+            2 => n as usize == reading::place(self.reading.got),
             _ => nodes.iter().take(self.told()).nth(count - 3) == Some(&n),
         }
     }
@@ -102,18 +102,16 @@ impl Answer {
     pub fn is_said(&self, writing: Writing, wanted: &Line) -> bool {
         match self.rest {
             Rest::Writer { number, place } => {
-                writing.number == number && writing.place == place as usize
+                reading::number(writing.got) == number
+                    && reading::place(writing.got) == place as usize
             }
             Rest::Records => {
-                let place = if writing.number == 0 {
-                    wanted.kinds
-                } else {
-                    self.reading.place
+                let is_ours = match (writing.got, self.reading.got) {
+                    (Ok(count), Ok(_)) => count == wanted.kinds,
+                    (Err(writer), Err(reader)) => writer == reader,
+                    _ => false,
                 };
-                wanted.may_end()
-                    && writing.used == wanted.kinds
-                    && writing.number == self.reading.number
-                    && writing.place == place
+                is_ours && wanted.may_end() && writing.used == wanted.kinds
             }
         }
     }

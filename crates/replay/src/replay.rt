@@ -3,13 +3,11 @@ use crate::answer::Answer;
 use crate::counts::Counts;
 use crate::tokens::Tokens;
 use lines::{Command, Line};
+use reader::Reason;
 use reading::{Reading, Writing};
 use report::Output;
 use std::fmt::Write;
 use std::io;
-
-// The writer's refusal where its lists have too little room: it leaves the reading in the table.
-const NO_ROOM: u32 = 10;
 
 // Where words go; the line that is being taken: its command, its answer once that is whole, and the writing that it
 // tells; a node table, clear between lines; and what the file gave so far.
@@ -93,7 +91,8 @@ impl<'a, P: Print> Replay<'a, P> {
     }
 
     fn judge_reading(&mut self, answer: &Answer) {
-        let Reading { number, place, .. } = answer.reading;
+        let got = answer.reading.got;
+        let (number, place) = (reading::number(got), reading::place(got));
         self.reader.add();
         self.reader.mix(number, place);
         self.reader.mix_list(&self.nodes, answer.told());
@@ -106,16 +105,12 @@ impl<'a, P: Print> Replay<'a, P> {
     fn judge_writing(&mut self, answer: &Answer) {
         let mut tokens = Tokens::new();
         let (writing, is_left) = self.write(answer.reading, &mut tokens);
-        let Writing {
-            number,
-            place,
-            used,
-            kept,
-        } = writing;
+        let Writing { got, used, kept } = writing;
+        let (number, place) = (reading::number(got), reading::place(got));
         self.writer.mix(number, place);
         self.writer.mix_list(&tokens.kinds, used);
         self.writer.mix_list(&tokens.texts, used);
-        if number == 0 {
+        if got.is_ok() {
             self.writer.add();
         }
         // The second form tells no writing.
@@ -152,14 +147,16 @@ impl<'a, P: Print> Replay<'a, P> {
     // Whether the table holds the reading again where the writer accepts, or has too little room for the writing alone,
     // and nothing else; `records` is the digest of the reading.
     fn is_left(&self, writing: Writing, reading: Reading, records: u64) -> bool {
-        match writing.number {
-            0 | NO_ROOM => {
-                let used = reading.used;
-                report::changed(&self.nodes, used).is_none()
-                    && report::digest(0, &self.nodes, used) == records
-            }
-            _ => report::changed(&self.nodes, 0).is_none(),
+        let is_read = match writing.got {
+            Ok(_) => true,
+            Err(refusal) => refusal.why == Reason::OutputShort,
+        };
+        if !is_read {
+            return report::changed(&self.nodes, 0).is_none();
         }
+        let used = reading.used;
+        report::changed(&self.nodes, used).is_none()
+            && report::digest(0, &self.nodes, used) == records
     }
 
     // A file's end: the last line may lack its own.
