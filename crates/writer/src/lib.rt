@@ -22,12 +22,11 @@ ghost use Rattle.scribe.proofs.Parts.{Spells, Coded, Term, Operand, Terms, Insid
 ghost use Rattle.reader.specs.Answers.{number, place, Plain};
 ghost use Rattle.writer.specs.Pages.{nodes_of, Ruled, Field, First, Bared, Taken, Wrote, Writ, Trails, Closes, Bounds, MOST, Walks};
 
-use kinds::node;
 use kinds::{
     AND, AS, BETWEEN, BLOB, BY, CASE, CAST, COLLATE, COMMA, CTIME_KW, DESC, DISTINCT, DOT, ELSE,
     END, EXISTS, FIRST, FLOAT, FROM, GROUP, HAVING, ID, IN, INDEXED, INTEGER, IS, JOIN, JOIN_KW,
     LAST, LIKE_KW, LIMIT, LP, NOT, NULL, NULLS, OFFSET, ON, ORDER, RP, SELECT, STAR, STRING, THEN,
-    USING, VALUES, VARIABLE, WHEN, WHERE,
+    USING, VALUES, VARIABLE, WHEN, WHERE, node,
 };
 use reader::{Answer, WIDTH};
 
