@@ -40,6 +40,7 @@ pub struct Cursor {
     pub made: u32,
 }
 
+// Two cases of its own, and no Result: document 01 names the form, let .. else on Got or Refused at each call.
 // Got: what a part says (the strength of an expression, the mode of an alias, the detail of a join), how many
 // members it has, and where it ends.
 #[derive(Clone, Copy)]
