@@ -16,7 +16,7 @@ use Rattle.theory.proofs.Cases.{le-leb, eqb-true, both_i}
 use borrow.Author.Tests.{lt-leb, ne_eqb, lt-ltb, le-ltb}
 use Rattle.kinds.specs.Kinds.{STAR}
 use Rattle.reader.proofs.Laying.{◌then◌}
-use mathlib.Core.List.{◌++◌, []}
+use mathlib.Core.List.{◌++◌}
 use lib.ListN.{length, get_or}
 use Rattle.grammar.specs.Reading.{choose}
 use Rattle.kinds.specs.Classes.{literal_code, heads_call}

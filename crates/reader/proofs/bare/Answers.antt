@@ -1,3 +1,4 @@
+use mathlib.Core.Path.{refl}
 use Rattle.reader.proofs.Steps.{further}
 use native.Mathlib.Omega.{arith}
 use Rattle.reader.proofs.Laying.{took, left}

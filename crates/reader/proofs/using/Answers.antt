@@ -6,7 +6,6 @@ use mathlib.Core.Path.{refl}
 use native.Mathlib.Omega.{arith}
 use Rattle.reader.proofs.Laying.{laid, took, left, goes, halts, by_walk, misfit, behind, next, at_once, whenever, so, loop_start, is, isn't, bind_onto}
 use Rattle.descent.proofs.Walk.{names_w, using_w}
-use mathlib.Core.List.{[]}
 use Rattle.reader.proofs.using.Goals as goal
 
 pub returns-then-lp-ne-LP : goal.returns-then-lp-ne-LP

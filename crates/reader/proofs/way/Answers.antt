@@ -11,7 +11,7 @@ returns-in-65 c = (further c.nulls.ensures.0 (omega arith), λ t. took _ _ _ (is
 
 pub returns-in-66 : goal.returns-in-66
 unfolding way_w
-returns-in-66 c = (further c.nulls-in-66.ensures.0 (omega arith), λ t. left _ _ _ (differs _ c.peek-kind.ensures c.in-66.is refl) (took _ _ _ (is c.peek-kind.ensures c.in-66.is) c.nulls-in-66.ensures.1))
+returns-in-66 c = (further c.nulls-in-66.ensures.0 (omega arith), λ t. left _ _ _ (differs _ c.peek-kind.ensures c.in-66.is refl) (took _ _ _ (is c.peek-kind.ensures c.in-66.is) (c.nulls-in-66.ensures.1 t)))
 
 pub returns-in_default : goal.returns-in_default
 unfolding way_w
