@@ -15,4 +15,4 @@ returns-in-Refused c = (refused_so c.requires.0 c.requires.2 c.command-first.ens
 pub returns-else-need-nodes : goal.returns-else-need-nodes
 returns-else-need-nodes c =
     let b = accepted_so c.requires.0 c.requires.2 c.command-first.ensures.1 c.in-Got.is refl c.command.ensures.1 refl refl refl (omega arith) in
-    (subst⁻¹ (λ (z : List ℕ). Reads c.args.kinds.now c.args.texts.now c.args.nodes.now 0 c.command-first.new.table.made z) (c.nodes-1.given.2 (sym b.0)) b.1, few_got refl c.command-first.ensures.0 c.in-Got.is refl, tt)
+    (subst⁻¹ (λ (z : List ℕ). Reads c.args.kinds.now c.args.texts.now c.args.nodes.now 0 c.command-first.new.table.made z) (c.nodes-1.given.1.1 (sym b.0)) b.1, few_got refl c.command-first.ensures.0 c.in-Got.is refl, tt)
