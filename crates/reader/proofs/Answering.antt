@@ -2,7 +2,7 @@
 -- places are within. Assumes nothing.
 use mathlib.Core.Bool.{Bool, true, false}
 use mathlib.Core.List.{List, []}
-use mathlib.Core.Path.{◌≡◌, sym, ap, ◌∙◌, subst, subst⁻¹}
+use mathlib.Core.Path.{◌≡◌, sym, ap, ap₂, ◌∙◌, subst, subst⁻¹}
 use Prim.Native.Nat.{ℕ, ◌+◌, ◌*◌, ◌≤◌, ◌<◌}
 use lib.ListN.{length}
 use native.Mathlib.Omega.{arith}
@@ -19,7 +19,7 @@ use Rattle.reader.specs.Bounds.{kinds_of, WithinAt, Within}
 use Rattle.reader.specs.Laying.{LaidAt, Laid, Later}
 use Rattle.reader.specs.Refusals.{number_of}
 use Rattle.reader.specs.declared.refusal.Reason.{Reason}
-use Rattle.reader.specs.declared.Cursor.{Cursor}
+use Rattle.reader.specs.declared.table.Table.{Table}
 use Rattle.reader.specs.declared.Step.{Step}
 use Rattle.reader.specs.declared.Step.TheVariants as step
 use Rattle.reader.proofs.Laying.{laid_in, stopped_in}
@@ -37,47 +37,50 @@ is_done (stop m p) = false
 is_done spent = false
 
 -- two walks that are one lay the same records
-filled_by : (N N' : List ℕ) (w : Walked) (r : Step) {a s n : ℕ} {rs : List Rec} → LaidAt 0 N N' w r → w ≡ done a s n rs → WIDTH * length rs ≤ length N → N' ≡ fill N 0 rs
+filled_by : (t t' : Table) (w : Walked) (r : Step) {a s n : ℕ} {rs : List Rec} → t.made ≡ 0 → LaidAt t t' w r → w ≡ done a s n rs → WIDTH * length rs ≤ length t.nodes.now
+    → (t'.nodes.ghost_name ≡ t.nodes.ghost_name) × (t'.nodes.now ≡ fill t.nodes.now 0 rs)
 unfolding records_in is_done
-filled_by N N' w (step.Got s n d) {rs = rs} l e h =
+filled_by t t' w (step.Got s n d) {rs = rs} z l e h =
     let same : l.0 ≡ rs = ap records_in (sym l.1 ∙ e) in
-    let c = l.2.counted in
+    let c = l.2.filled.counted in
     let k : length l.0 ≡ length rs = ap length same in
-    l.2.stand (omega (arith, h, c, k)) ∙ ap (fill N 0) same
-filled_by N N' w (step.Refused m p) l e h = 0≢1 (ap is_done (sym l ∙ e))
+    (l.2.same, l.2.filled.stand (omega (arith, h, c, k, z)) ∙ ap₂ (λ (m : ℕ) (x : List Rec). fill t.nodes.now m x) z same)
+filled_by t t' w (step.Refused m p) z l e h = 0≢1 (ap is_done (sym l ∙ e))
 
-pub refused_some : {K T : List ℕ} (lent : Lent K T) (fit : AllFit (tokens K T)) {M M' : List ℕ} {r : Step} (first : Later (λ f. Laid 0 M M' (command_w K T f) r)) {m : Reason} {p : ℕ} → r ≡ step.Refused m p → 0 < number_of m
+pub refused_some : {K T : List ℕ} (lent : Lent K T) (fit : AllFit (tokens K T)) {u u' : Table} {r : Step} (first : Later (λ f. Laid u u' (command_w K T f) r)) {m : Reason} {p : ℕ} → r ≡ step.Refused m p → 0 < number_of m
 refused_some {K} {T} lent fit first e = let f : ℕ = first.least in stopped_some K T [] lent fit f (stopped_in (first.holds f (omega arith)) e)
 
-module _ {K T N N' : List ℕ} (lent : Lent K T) (fit : AllFit (tokens K T)) {M M' : List ℕ} {r : Step} (first : Later (λ f. Laid 0 M M' (command_w K T f) r)) where
-  pub refused_so : {m : Reason} {p : ℕ} → r ≡ step.Refused m p → N' ≡ N → Reads K T N (number_of m) p N'
-  refused_so {m} {p} e t =
+module _ {K T N : List ℕ} (lent : Lent K T) (fit : AllFit (tokens K T)) {u u' : Table} {r : Step} (first : Later (λ f. Laid u u' (command_w K T f) r)) where
+  pub refused_so : {m : Reason} {p : ℕ} → r ≡ step.Refused m p → Reads K T N (number_of m) p N
+  refused_so {m} {p} e =
       let f : ℕ = first.least in
-      subst⁻¹ (λ (z : List ℕ). Reads K T N (number_of m) p z) t (stopped K T N lent fit f (stopped_in (first.holds f (omega arith)) e))
+      stopped K T N lent fit f (stopped_in (first.holds f (omega arith)) e)
 
-  module _ {s n : ℕ} {d : Cursor} (e : r ≡ step.Got s n d) where
-    pub without_room : {p : ℕ} → p ≡ d.made → length N < d.made * 4 → N' ≡ N → Reads K T N 9 p N'
-    without_room {p} i h t =
+  module _ {s n d : ℕ} (e : r ≡ step.Got s n d) (z : u.made ≡ 0) where
+    pub without_room : {p : ℕ} → p ≡ u'.made → length N < u'.made * 4 → Reads K T N 9 p N
+    without_room {p} i h =
         let f : ℕ = first.least in
         let x = laid_in (first.holds f (omega arith)) e in
-        let c = x.2.counted in
-        let k : length x.0 ≡ p = omega (arith, c, i) in
-        subst (λ z. Reads K T N 9 z N') k (subst⁻¹ (λ (z : List ℕ). Reads K T N 9 (length x.0) z) t (too_long K T N lent fit f x.1 (λ g. omega (arith, g, h, k, i))))
+        let c = x.2.filled.counted in
+        let k : length x.0 ≡ p = omega (arith, c, i, z) in
+        subst (λ (q : ℕ). Reads K T N 9 q N) k (too_long K T N lent fit f x.1 (λ g. omega (arith, g, h, k, i)))
 
-    pub accepted_so : {M₁ : List ℕ} {q : Step} {p : ℕ} → Later (λ f. Laid 0 M₁ N' (command_w K T f) q) → M₁ ≡ N → p ≡ d.made → d.made * 4 ≤ length N → Reads K T N 0 p N'
-    accepted_so {M₁} {q} {p} second i j h =
+    pub accepted_so : {v v' : Table} {q : Step} {p : ℕ} → Later (λ f. Laid v v' (command_w K T f) q) → v.made ≡ 0 → v.nodes.now ≡ N → p ≡ u'.made → u'.made * 4 ≤ length N
+        → (v'.nodes.ghost_name ≡ v.nodes.ghost_name) × Reads K T N 0 p v'.nodes.now
+    accepted_so {v} {v'} {q} {p} second y i j h =
         let f : ℕ = first.least + second.least in
         let x = laid_in (first.holds f (omega arith)) e in
-        let c = x.2.counted in
-        let k : length x.0 ≡ p = omega (arith, c, j) in
+        let c = x.2.filled.counted in
+        let k : length x.0 ≡ p = omega (arith, c, j, z) in
         let room : WIDTH * length x.0 ≤ length N = omega (arith, h, k, j) in
-        let t : N' ≡ fill N 0 x.0 = filled_by N N' (command_w K T f) q (subst (λ (z : List ℕ). LaidAt 0 z N' (command_w K T f) q) i (second.holds f (omega arith)).holds) x.1 room in
-        subst (λ z. Reads K T N 0 z N') k (subst⁻¹ (λ (z : List ℕ). Reads K T N 0 (length x.0) z) t (walked K T N lent fit f x.1 room))
+        let b = filled_by v v' (command_w K T f) q y (second.holds f (omega arith)).holds x.1 (subst⁻¹ (λ (l : List ℕ). WIDTH * length x.0 ≤ length l) i room) in
+        let t : v'.nodes.now ≡ fill N 0 x.0 = b.1 ∙ ap (λ (l : List ℕ). fill l 0 x.0) i in
+        (b.0, subst (λ (m : ℕ). Reads K T N 0 m v'.nodes.now) k (subst⁻¹ (λ (l : List ℕ). Reads K T N 0 (length x.0) l) t (walked K T N lent fit f x.1 room)))
 
 -- what a walk from the first token is within
-module _ {lists : Lists} {r : Step} (w : Within 1 4 lists 0 0 r) where
+module _ {lists : Lists} {made made' : ℕ} {r : Step} (z : made ≡ 0) (w : Within 1 4 lists 0 made made' r) where
   pub few_refused : {m : Reason} {p : ℕ} → r ≡ step.Refused m p → Few (kinds_of lists) p
-  few_refused {p = p} e = let h : p ≤ length (kinds_of lists) = subst (λ (s : Step). WithinAt 1 4 lists 0 0 s) e w.holds in omega (arith, h)
+  few_refused {p = p} e = let h : p ≤ length (kinds_of lists) = subst (λ (s : Step). WithinAt 1 4 lists 0 made made' s) e w.holds in omega (arith, h)
 
-  pub few_got : {s n p : ℕ} {d : Cursor} → r ≡ step.Got s n d → p ≡ d.made → Few (kinds_of lists) p
-  few_got {d = d} e i = let b = got_in w e in let h : d.at ≤ length (kinds_of lists) = b.inside in let k = b.room in omega (arith, h, k, i)
+  pub few_got : {s n d p : ℕ} → r ≡ step.Got s n d → p ≡ made' → Few (kinds_of lists) p
+  few_got {d = d} e i = let b = got_in w e in let h : d ≤ length (kinds_of lists) = b.inside in let k = b.room in omega (arith, h, k, i, z)

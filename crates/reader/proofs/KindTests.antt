@@ -19,13 +19,12 @@ use Rattle.grammar.specs.Limits.{Around}
 use Rattle.grammar.specs.Nodes.{Rec}
 use Rattle.grammar.specs.Reading.{choose}
 use Rattle.descent.proofs.Places.{wrong}
-use Rattle.descent.proofs.Fill.{Filled}
 use Rattle.descent.proofs.Walk.{Walked, done, stop, bind, onto, over, missing, deeper, too_deep_w, join_w, called_w, expr_w, op_w, ops_w, list_w, sign_w, parts_w, tail_w, select_w, selected_w}
 use Rattle.reader.specs.declared.lists.Lists.{Lists}
+use Rattle.reader.specs.declared.table.Table.{Table}
 use Rattle.reader.specs.declared.ask.Ask.{Ask}
 use Rattle.reader.specs.Bounds.{kinds_of, texts_of, strength_asked, Seen}
-use Rattle.reader.specs.Laying.{Laid, TooDeep, is_bare, begins_join}
-use Rattle.reader.specs.declared.Cursor.{Cursor}
+use Rattle.reader.specs.Laying.{Laid, Fills, TooDeep, is_bare, begins_join}
 use Rattle.reader.specs.declared.Step.{Step}
 use Rattle.reader.specs.declared.Step.TheVariants as step
 use Rattle.reader.proofs.Laying.{said, left, goes, behind, by_walk, no_left, no_right}
@@ -70,7 +69,7 @@ stops true true x at = refl
 stops true false x at = refl
 stops false d x at = refl
 
-pub deep_walk : {made : ℕ} {N N' : List ℕ} {r : Step} {lists : Lists} {at kind : ℕ} (ask : Ask) (s : ℕ) → Seen lists at kind → strength_asked ask ≡ s → TooDeep kind (strength_asked ask) at r → Laid made N N' (too_deep_w (kinds_of lists) (texts_of lists) at s) r
+pub deep_walk : {t t' : Table} {r : Step} {lists : Lists} {at kind : ℕ} (ask : Ask) (s : ℕ) → Seen lists at kind → strength_asked ask ≡ s → TooDeep kind (strength_asked ask) at r → Laid t t' (too_deep_w (kinds_of lists) (texts_of lists) at s) r
 unfolding too_deep_w
 deep_walk {lists = lists} {at = at} {kind = kind} ask s e a h =
     let k : ℕ = get_or (kinds_of lists) at 0 in
@@ -205,8 +204,8 @@ no_sign k d h = rw (
 abbrev pub signed_w : List ℕ → List ℕ → ℕ → ℕ → Around → ℕ → ℕ → ℕ → Walked
 signed_w K T f at c s k q = choose (both (eqb k NOT) (ltb 10 s)) (stop (wrong k) at) (bind (expr_w K T f (at + 1) (deeper c) q) (λ a x n rs. done a (min q x) 0 (over 38 k 1 0 rs)))
 
-pub prefix_walk : {made : ℕ} {N N' : List ℕ} {r : Step} {lists : Lists} {at kind q : ℕ} (f : ℕ) (c : Around) (s : ℕ) → Seen lists at kind → q ≡ prefix_of kind
-    → Laid made N N' (signed_w (kinds_of lists) (texts_of lists) f at c s kind q) r → Laid made N N' (sign_w (kinds_of lists) (texts_of lists) (suc f) at c s) r
+pub prefix_walk : {t t' : Table} {r : Step} {lists : Lists} {at kind q : ℕ} (f : ℕ) (c : Around) (s : ℕ) → Seen lists at kind → q ≡ prefix_of kind
+    → Laid t t' (signed_w (kinds_of lists) (texts_of lists) f at c s kind q) r → Laid t t' (sign_w (kinds_of lists) (texts_of lists) (suc f) at c s) r
 unfolding expr_w
 prefix_walk {lists = lists} {at = at} {kind = kind} {q = q} f c s e p l =
     by_walk (ap (λ k. signed_w (kinds_of lists) (texts_of lists) f at c s k (prefix_of k)) (sym e.is) ∙ ap (λ z. signed_w (kinds_of lists) (texts_of lists) f at c s kind z) (sym p)) l
@@ -247,17 +246,17 @@ going_w K T f at c s left pre k =
     (choose (ltb left k) (done at left 0 [])
     (bind (op_w K T f at (deeper c) (k + 1) pre) (λ a x n rs. onto rs (ops_w K T f a c s (min k x) (pre + length rs))))))
 
-pub ops_walk : {made : ℕ} {N N' : List ℕ} {r : Step} {lists : Lists} {at kind k : ℕ} (f : ℕ) (c : Around) (s left pre : ℕ) → Seen lists at kind → k ≡ strength_of kind
-    → Laid made N N' (going_w (kinds_of lists) (texts_of lists) f at c s left pre k) r → Laid made N N' (ops_w (kinds_of lists) (texts_of lists) (suc f) at c s left pre) r
+pub ops_walk : {t t' : Table} {r : Step} {lists : Lists} {at kind k : ℕ} (f : ℕ) (c : Around) (s left pre : ℕ) → Seen lists at kind → k ≡ strength_of kind
+    → Laid t t' (going_w (kinds_of lists) (texts_of lists) f at c s left pre k) r → Laid t t' (ops_w (kinds_of lists) (texts_of lists) (suc f) at c s left pre) r
 unfolding expr_w
 ops_walk {lists = lists} {at = at} f c s left pre e p l = by_walk (ap (λ z. going_w (kinds_of lists) (texts_of lists) f at c s left pre (strength_of z)) (sym e.is) ∙ ap (λ z. going_w (kinds_of lists) (texts_of lists) f at c s left pre z) (sym p)) l
 
 -- an operator that was read, and those that go on from there
-pub ops_goes : {made : ℕ} {N M N' : List ℕ} {r q : Step} {lists : Lists} {at kind k said count new : ℕ} {d : Cursor} (f : ℕ) (c : Around) (s left pre : ℕ) → Seen lists at kind → k ≡ strength_of kind → new ≡ min k said
-    → eqb k 0 ≡ false → ltb k s ≡ false → ltb left k ≡ false → Laid made N M (op_w (kinds_of lists) (texts_of lists) f at (deeper c) (k + 1) pre) q → q ≡ step.Got said count d
-    → ((rs : List Rec) → Filled N M made d.made rs → Laid d.made M N' (ops_w (kinds_of lists) (texts_of lists) f d.at c s new (pre + length rs)) r) → Laid made N N' (ops_w (kinds_of lists) (texts_of lists) (suc f) at c s left pre) r
+pub ops_goes : {t u t' : Table} {r q : Step} {lists : Lists} {at kind k said count new : ℕ} {d : ℕ} (f : ℕ) (c : Around) (s left pre : ℕ) → Seen lists at kind → k ≡ strength_of kind → new ≡ min k said
+    → eqb k 0 ≡ false → ltb k s ≡ false → ltb left k ≡ false → Laid t u (op_w (kinds_of lists) (texts_of lists) f at (deeper c) (k + 1) pre) q → q ≡ step.Got said count d
+    → ((rs : List Rec) → Fills t u rs → Laid u t' (ops_w (kinds_of lists) (texts_of lists) f d c s new (pre + length rs)) r) → Laid t t' (ops_w (kinds_of lists) (texts_of lists) (suc f) at c s left pre) r
 ops_goes {lists = lists} {d = d} f c s x pre e p n z i j h g l =
-    ops_walk f c s x pre e p (left _ _ _ z (left _ _ _ i (left _ _ _ j (goes _ _ h g (λ rs F. behind _ _ F (by_walk (ap (λ y. ops_w (kinds_of lists) (texts_of lists) f d.at c s y (pre + length rs)) (sym n)) (l rs F)))))))
+    ops_walk f c s x pre e p (left _ _ _ z (left _ _ _ i (left _ _ _ j (goes _ _ h g (λ rs F. behind _ _ F (by_walk (ap (λ y. ops_w (kinds_of lists) (texts_of lists) f d c s y (pre + length rs)) (sym n)) (l rs F)))))))
 
 pub indexed_heads_none : (k : ℕ) → k ≡ 4 → heads_call k ≡ false
 unfolding heads_call

@@ -15,75 +15,90 @@ use Rattle.grammar.specs.Nodes.{Rec, rec}
 use Rattle.grammar.specs.Reading.{choose}
 use Rattle.descent.proofs.Places.{wrong}
 use Rattle.descent.proofs.Walk.{Walked, done, stop, spent, bind, onto, over, missing, deeper, opening}
-use Rattle.descent.proofs.Fill.{Filled}
-use Rattle.descent.proofs.Filling.{◌then◌}
+use Rattle.descent.proofs.Fill.{put, fill}
+use Rattle.grammar.specs.Sizes.{WIDTH}
+use Rattle.descent.proofs.Filling.{nothing}
+use Rattle.descent.proofs.Filling as filling
 use Rattle.reader.specs.declared.lists.Lists.{Lists}
 use Rattle.reader.specs.declared.ask.Ask.{Ask}
 use Rattle.reader.specs.Asked.{queries_in, strength_in}
 use Rattle.reader.specs.Bounds.{kinds_of, queries_of, strength_asked, Seen}
 use Rattle.reader.specs.Refusals.{number_of}
 use Rattle.reader.specs.declared.refusal.Reason.{Reason}
-use Rattle.reader.specs.Laying.{Says, Misfit, LaidAt, Laid, Later, Packed, Onward, one, absences}
-use Rattle.reader.specs.declared.Cursor.{Cursor}
+use Rattle.reader.specs.Laying.{Says, Misfit, Fills, LaidAt, Laid, Later, Packed, Onward, one, absences}
+use Rattle.reader.specs.declared.table.Table.{Table}
 use Rattle.reader.specs.declared.Step.{Step}
 use Rattle.reader.specs.declared.Step.TheVariants as step
+
+-- ── records in the table ──
+pub none_came : {t : Table} → Fills t t []
+none_came = record { same = refl; filled = nothing }
+
+infixr 5 ◌then◌
+pub ◌then◌ : {t u v : Table} {rs qs : List Rec} → Fills t u rs → Fills u v qs → Fills t v (rs ++ qs)
+◌then◌ a b = record { same = b.same ∙ a.same; filled = filling.◌then◌ a.filled b.filled }
+
+-- one record, where there is room for it
+pub emitted : {t u : Table} {c d n s : ℕ} → u.nodes.ghost_name ≡ t.nodes.ghost_name → u.made ≡ t.made → ((t.made + 1) * WIDTH ≤ length t.nodes.now → u.nodes.now ≡ put t.nodes.now t.made c d n s) → Fills t (record { nodes = u.nodes; made = u.made + 1 }) (one c d n s)
+unfolding fill
+emitted g e h = record { same = g; filled = record { counted = omega (arith, e); stand = λ r. h (omega (arith, r, e)) } }
 
 -- ── an answer that is made ──
 pub renumbered : {n m p : ℕ} {r : Step} → Says n p r → n ≡ m → Says m p r
 renumbered h e = record { why = h.why; is = h.is; number = h.number ∙ e }
 
-module _ {made : ℕ} {N N' : List ℕ} {w : Walked} {r : Step} where
-  pub laid : {s n : ℕ} {d : Cursor} {rs : List Rec} → r ≡ step.Got s n d → w ≡ done d.at s n rs → Filled N N' made d.made rs → Laid made N N' w r
-  laid {rs = rs} e a f = record { holds = subst⁻¹ (λ (s : Step). LaidAt made N N' w s) e (rs, a, f) }
+module _ {t t' : Table} {w : Walked} {r : Step} where
+  pub laid : {s n d : ℕ} {rs : List Rec} → r ≡ step.Got s n d → w ≡ done d s n rs → Fills t t' rs → Laid t t' w r
+  laid {rs = rs} e a f = record { holds = subst⁻¹ (λ (s : Step). LaidAt t t' w s) e (rs, a, f) }
 
   -- its first number told in another way
-  pub laid_as : {s t n : ℕ} {d : Cursor} {rs : List Rec} → r ≡ step.Got s n d → s ≡ t → w ≡ done d.at t n rs → Filled N N' made d.made rs → Laid made N N' w r
-  laid_as {n = n} {d = d} {rs = rs} e q a f = laid e (a ∙ ap (λ z. done d.at z n rs) (sym q)) f
+  pub laid_as : {s u n d : ℕ} {rs : List Rec} → r ≡ step.Got s n d → s ≡ u → w ≡ done d u n rs → Fills t t' rs → Laid t t' w r
+  laid_as {n = n} {d = d} {rs = rs} e q a f = laid e (a ∙ ap (λ z. done d z n rs) (sym q)) f
 
-  pub halted : {m : Reason} {p : ℕ} → r ≡ step.Refused m p → w ≡ stop (number_of m) p → Laid made N N' w r
-  halted e a = record { holds = subst⁻¹ (λ (s : Step). LaidAt made N N' w s) e a }
+  pub halted : {m : Reason} {p : ℕ} → r ≡ step.Refused m p → w ≡ stop (number_of m) p → Laid t t' w r
+  halted e a = record { holds = subst⁻¹ (λ (s : Step). LaidAt t t' w s) e a }
 
-  pub said : {n p : ℕ} → Says n p r → w ≡ stop n p → Laid made N N' w r
+  pub said : {n p : ℕ} → Says n p r → w ≡ stop n p → Laid t t' w r
   said {p = p} h a = halted h.is (a ∙ ap (λ z. stop z p) (sym h.number))
 
-  pub laid_in : {s n : ℕ} {d : Cursor} → Laid made N N' w r → r ≡ step.Got s n d → LaidAt made N N' w (step.Got s n d)
-  laid_in l e = subst (λ (s : Step). LaidAt made N N' w s) e l.holds
+  pub laid_in : {s n : ℕ} {d : ℕ} → Laid t t' w r → r ≡ step.Got s n d → LaidAt t t' w (step.Got s n d)
+  laid_in l e = subst (λ (s : Step). LaidAt t t' w s) e l.holds
 
-  pub stopped_in : {m : Reason} {p : ℕ} → Laid made N N' w r → r ≡ step.Refused m p → w ≡ stop (number_of m) p
-  stopped_in l e = subst (λ (s : Step). LaidAt made N N' w s) e l.holds
+  pub stopped_in : {m : Reason} {p : ℕ} → Laid t t' w r → r ≡ step.Refused m p → w ≡ stop (number_of m) p
+  stopped_in l e = subst (λ (s : Step). LaidAt t t' w s) e l.holds
 
 -- the answer and the table of one of two ways
-pub laid_joined : {made : ℕ} {N N' M : List ℕ} {w : Walked} {r q : Step} → N' ≡ M → r ≡ q → Laid made N M w q → Laid made N N' w r
-laid_joined {made} {N} {N'} {M} {w} {r} {q} e d l = subst⁻¹ (λ (z : List ℕ). Laid made N z w r) e (subst⁻¹ (λ (s : Step). Laid made N M w s) d l)
+pub laid_joined : {t t' u : Table} {w : Walked} {r q : Step} → t' ≡ u → r ≡ q → Laid t u w q → Laid t t' w r
+laid_joined {t} {t'} {u} {w} {r} {q} e d l = subst⁻¹ (λ (z : Table). Laid t z w r) e (subst⁻¹ (λ (s : Step). Laid t u w s) d l)
 
 -- ── a walk's way ──
-module _ {made : ℕ} {N N' : List ℕ} {r : Step} where
+module _ {t t' : Table} {r : Step} where
   -- a choice, its test known
-  pub took : (b : Bool) (x y : Walked) → b ≡ true → Laid made N N' x r → Laid made N N' (choose b x y) r
+  pub took : (b : Bool) (x y : Walked) → b ≡ true → Laid t t' x r → Laid t t' (choose b x y) r
   unfolding choose pick
-  took b x y e l = subst⁻¹ (λ z. Laid made N N' (choose z x y) r) e l
+  took b x y e l = subst⁻¹ (λ z. Laid t t' (choose z x y) r) e l
 
-  pub left : (b : Bool) (x y : Walked) → b ≡ false → Laid made N N' y r → Laid made N N' (choose b x y) r
+  pub left : (b : Bool) (x y : Walked) → b ≡ false → Laid t t' y r → Laid t t' (choose b x y) r
   unfolding choose pick
-  left b x y e l = subst⁻¹ (λ z. Laid made N N' (choose z x y) r) e l
+  left b x y e l = subst⁻¹ (λ z. Laid t t' (choose z x y) r) e l
 
   -- a callee that got its part, its records and where they stand
-  pub goes : {m : ℕ} {M M' : List ℕ} {q : Step} {s n : ℕ} {d : Cursor} (w : Walked) (k : ℕ → ℕ → ℕ → List Rec → Walked) → Laid m M M' w q → q ≡ step.Got s n d
-      → ((rs : List Rec) → Filled M M' m d.made rs → Laid made N N' (k d.at s n rs) r) → Laid made N N' (bind w k) r
+  pub goes : {u u' : Table} {q : Step} {s n d : ℕ} (w : Walked) (k : ℕ → ℕ → ℕ → List Rec → Walked) → Laid u u' w q → q ≡ step.Got s n d
+      → ((rs : List Rec) → Fills u u' rs → Laid t t' (k d s n rs) r) → Laid t t' (bind w k) r
   unfolding bind
-  goes w k l e h = let x = laid_in l e in subst⁻¹ (λ z. Laid made N N' (bind z k) r) x.1 (h x.0 x.2)
+  goes w k l e h = let x = laid_in l e in subst⁻¹ (λ z. Laid t t' (bind z k) r) x.1 (h x.0 x.2)
 
   -- a callee that refused
-  pub halts : {m : ℕ} {M M' : List ℕ} {j : Reason} {p : ℕ} (w : Walked) (k : ℕ → ℕ → ℕ → List Rec → Walked) → Laid m M M' w r → r ≡ step.Refused j p → Laid made N N' (bind w k) r
+  pub halts : {u u' : Table} {j : Reason} {p : ℕ} (w : Walked) (k : ℕ → ℕ → ℕ → List Rec → Walked) → Laid u u' w r → r ≡ step.Refused j p → Laid t t' (bind w k) r
   unfolding bind
   halts w k l e = halted e (ap (λ z. bind z k) (stopped_in l e))
 
   -- the walk under another of its names
-  pub by_walk : {w w' : Walked} → w ≡ w' → Laid made N N' w' r → Laid made N N' w r
-  by_walk e l = subst⁻¹ (λ (z : Walked). Laid made N N' z r) e l
+  pub by_walk : {w w' : Walked} → w ≡ w' → Laid t t' w' r → Laid t t' w r
+  by_walk e l = subst⁻¹ (λ (z : Walked). Laid t t' z r) e l
 
   -- a token that can't stand here
-  pub misfit : {lists : Lists} {at kind : ℕ} → Seen lists at kind → Misfit kind at r → Laid made N N' (stop (wrong (get_or (kinds_of lists) at 0)) at) r
+  pub misfit : {lists : Lists} {at kind : ℕ} → Seen lists at kind → Misfit kind at r → Laid t t' (stop (wrong (get_or (kinds_of lists) at 0)) at) r
   misfit {at = at} s e = said e (ap (λ z. stop (wrong z) at) (sym s.is))
 
 -- records put before those of a walk, one by one
@@ -94,47 +109,47 @@ bind_onto rs (stop m p) = refl
 bind_onto rs spent = refl
 
 -- records before those of a part
-onto_at : (made m : ℕ) (N N₁ N' : List ℕ) (rs : List Rec) (w : Walked) (r : Step) → Filled N N₁ made m rs → LaidAt m N₁ N' w r → LaidAt made N N' (onto rs w) r
+onto_at : (t u t' : Table) (rs : List Rec) (w : Walked) (r : Step) → Fills t u rs → LaidAt u t' w r → LaidAt t t' (onto rs w) r
 unfolding onto
-onto_at made m N N₁ N' rs w (step.Got s n d) f l = (rs ++ l.0, ap (onto rs) l.1, f then l.2)
-onto_at made m N N₁ N' rs w (step.Refused n p) f l = ap (onto rs) l
+onto_at t u t' rs w (step.Got s n d) f l = (rs ++ l.0, ap (onto rs) l.1, f then l.2)
+onto_at t u t' rs w (step.Refused n p) f l = ap (onto rs) l
 
-pub behind : {made m : ℕ} {N N₁ N' : List ℕ} {r : Step} (rs : List Rec) (w : Walked) → Filled N N₁ made m rs → Laid m N₁ N' w r → Laid made N N' (onto rs w) r
-behind {made} {m} {N} {N₁} {N'} {r} rs w f l = record { holds = onto_at made m N N₁ N' rs w r f l.holds }
+pub behind : {t u t' : Table} {r : Step} (rs : List Rec) (w : Walked) → Fills t u rs → Laid u t' w r → Laid t t' (onto rs w) r
+behind {t} {u} {t'} {r} rs w f l = record { holds = onto_at t u t' rs w r f l.holds }
 
 -- ── records ──
-pub filled_as : {N N' : List ℕ} {m k : ℕ} {rs qs : List Rec} → rs ≡ qs → Filled N N' m k rs → Filled N N' m k qs
-filled_as {N} {N'} {m} {k} e f = subst (λ z. Filled N N' m k z) e f
+pub fills_as : {t t' : Table} {rs qs : List Rec} → rs ≡ qs → Fills t t' rs → Fills t t' qs
+fills_as {t} {t'} e f = subst (λ z. Fills t t' z) e f
 
 -- a record over all since `base`, `pre` of them before these
-pub capped : {N N₁ N₂ : List ℕ} {made m m' c d n : ℕ} {rs : List Rec} (base pre : ℕ) → made ≡ base + pre → Filled N N₁ made m rs → Filled N₁ N₂ m m' (one c d n (m - base + 1)) → Filled N N₂ made m' (over c d n pre rs)
-capped {made = made} {m = m} {c = c} {d = d} {n = n} {rs = rs} base pre b f g = filled_as (ap (λ z. rs ++ one c d n z) (size f.counted)) (f then g)
+pub capped : {t u v : Table} {c d n : ℕ} {rs : List Rec} (base pre : ℕ) → t.made ≡ base + pre → Fills t u rs → Fills u v (one c d n (u.made - base + 1)) → Fills t v (over c d n pre rs)
+capped {t} {u} {c = c} {d = d} {n = n} {rs = rs} base pre b f g = fills_as (ap (λ z. rs ++ one c d n z) (size f.filled.counted)) (f then g)
   where
-    size : m ≡ made + length rs → m - base + 1 ≡ pre + length rs + 1
+    size : u.made ≡ t.made + length rs → u.made - base + 1 ≡ pre + length rs + 1
     size e = omega (arith, e, b)
 
--- a record over all since `made`
-pub topped : {N N₁ N₂ : List ℕ} {made m m' c d n : ℕ} {rs : List Rec} → Filled N N₁ made m rs → Filled N₁ N₂ m m' (one c d n (m - made + 1)) → Filled N N₂ made m' (over c d n 0 rs)
-topped {made = made} f g = capped made 0 (omega arith) f g
+-- a record over all since the table was t
+pub topped : {t u v : Table} {c d n : ℕ} {rs : List Rec} → Fills t u rs → Fills u v (one c d n (u.made - t.made + 1)) → Fills t v (over c d n 0 rs)
+topped {t} f g = capped t.made 0 (omega arith) f g
 
 -- a record over `pre` alone
-pub closed : {N N' : List ℕ} {made m c d n : ℕ} (base pre : ℕ) → made ≡ base + pre → Filled N N' made m (one c d n (made - base + 1)) → Filled N N' made m (one c d n (pre + 1))
-closed {made = made} {c = c} {d = d} {n = n} base pre b f = filled_as (ap (λ z. one c d n z) size) f
+pub closed : {t u : Table} {c d n : ℕ} (base pre : ℕ) → t.made ≡ base + pre → Fills t u (one c d n (t.made - base + 1)) → Fills t u (one c d n (pre + 1))
+closed {t} {c = c} {d = d} {n = n} base pre b f = fills_as (ap (λ z. one c d n z) size) f
   where
-    size : made - base + 1 ≡ pre + 1
+    size : t.made - base + 1 ≡ pre + 1
     size = omega (arith, b)
 
 -- a call's two records: its arguments', and its own over these and the name
-pub paired : {N N₁ N₂ N₃ : List ℕ} {base m l l' d n : ℕ} {rs : List Rec} → Filled N N₁ base m rs → Filled N₁ N₂ m l (one 4 0 n (m - base + 1)) → Filled N₂ N₃ l l' (one 32 d 2 (l - base + 2))
-    → Filled N N₃ base l' (rs ++ (rec 4 0 n (length rs + 1) ∷ rec 32 d 2 (length rs + 3) ∷ []))
-paired {base = base} {m = m} {l = l} {d = d} {n = n} {rs = rs} f g h =
-    filled_as (ap₂ (λ y z. rs ++ (rec 4 0 n y ∷ rec 32 d 2 z ∷ [])) (first f.counted) (second f.counted g.counted)) (f then g then h)
+pub paired : {t u v w : Table} {base d n : ℕ} {rs : List Rec} → t.made ≡ base → Fills t u rs → Fills u v (one 4 0 n (u.made - base + 1)) → Fills v w (one 32 d 2 (v.made - base + 2))
+    → Fills t w (rs ++ (rec 4 0 n (length rs + 1) ∷ rec 32 d 2 (length rs + 3) ∷ []))
+paired {t} {u} {v} {base = base} {d = d} {n = n} {rs = rs} b f g h =
+    fills_as (ap₂ (λ y z. rs ++ (rec 4 0 n y ∷ rec 32 d 2 z ∷ [])) (first f.filled.counted) (second f.filled.counted g.filled.counted)) (f then g then h)
   where
-    first : m ≡ base + length rs → m - base + 1 ≡ length rs + 1
-    first e = omega (arith, e)
+    first : u.made ≡ t.made + length rs → u.made - base + 1 ≡ length rs + 1
+    first e = omega (arith, e, b)
 
-    second : m ≡ base + length rs → l ≡ m + 1 → l - base + 2 ≡ length rs + 3
-    second e i = omega (arith, e, i)
+    second : u.made ≡ t.made + length rs → v.made ≡ u.made + 1 → v.made - base + 2 ≡ length rs + 3
+    second e i = omega (arith, e, i, b)
 
 -- absent parts, one more
 one_more : (k : ℕ) → absences (k + 1) ≡ absences k ++ one 0 0 0 1
@@ -142,27 +157,12 @@ unfolding absences
 one_more zero = refl
 one_more (suc k) = ap absences (let e : suc k + 1 ≡ suc (k + 1) = omega arith in e) ∙ ap (λ z. missing ∷ z) (one_more k)
 
-pub absent_more : {N N₁ N₂ : List ℕ} {made m m' : ℕ} (k : ℕ) → Filled N N₁ made m (absences k) → Filled N₁ N₂ m m' (one 0 0 0 1) → Filled N N₂ made m' (absences (k + 1))
-absent_more k f g = filled_as (sym (one_more k)) (f then g)
-
-length_absences : (n : ℕ) → length (absences n) ≡ n
+pub absent_none : {t : Table} → Fills t t (absences 0)
 unfolding absences
-length_absences zero = refl
-length_absences (suc n) = let i = length_absences n in omega (arith, i)
+absent_none = none_came
 
-pub absent_all : {N N' : List ℕ} {made i : ℕ} (n : ℕ) → Filled N N' made i (absences (i - made)) → i ≡ made + n → Filled N N' made (made + n) (absences n)
-absent_all {N} {N'} {made} {i} n f e = subst (λ z. Filled N N' made z (absences n)) e (filled_as (ap absences (less e)) f)
-  where
-    less : i ≡ made + n → i - made ≡ n
-    less e = omega (arith, e)
-
-pub absent_one : {N N' : List ℕ} {made m : ℕ} (n : ℕ) → n ≡ 1 → Filled N N' made m (one 0 0 0 1) → Filled N N' made m (absences n)
-unfolding absences
-absent_one n e f = filled_as (sym (ap absences e)) f
-
--- where there is no room for them nothing is told of the table
-pub absent_cut : {N N' : List ℕ} (made n : ℕ) → ((made + n) * 4 ≤ length N → ⊥) → Filled N N' made (made + n) (absences n)
-absent_cut made n h = record { counted = let l = length_absences n in omega (arith, l); stand = λ z. absurd (h z) }
+pub absent_more : {t u v : Table} (k : ℕ) → Fills t u (absences k) → Fills u v (one 0 0 0 1) → Fills t v (absences (k + 1))
+absent_more k f g = fills_as (sym (one_more k)) (f then g)
 
 -- ── with enough fuel ──
 infixr 6 ◌also◌
@@ -205,8 +205,8 @@ for_any {Q} base start k h =
     let l : Later (λ f. Q f (start - base)) = k (start - base) e in
     record { least = l.least; holds = λ f g pre d. subst (Q f) (let i : start - base ≡ pre = omega (arith, d) in i) (l.holds f g) }
 
-pub loop_start : {start : ℕ} {N : List ℕ} {w : ℕ → Walked} → Onward start start N N w w
-loop_start = record { on = λ r N' l. l }
+pub loop_start : {t : Table} {w : ℕ → Walked} → Onward t t w w
+loop_start = record { on = λ r t' l. l }
 
 -- ── the kind at a place ──
 module _ {lists : Lists} {at kind : ℕ} where

@@ -4,7 +4,6 @@ use Rattle.std.specs.Prelude.{◌≡◌, List, ℕ, ◌+◌, ◌-◌, ◌*◌, �
 use Rattle.reader.specs.Asked.{queries_in, strength_in}
 use Rattle.reader.specs.declared.ask.Ask.{Ask}
 use Rattle.reader.specs.declared.lists.Lists.{Lists}
-use Rattle.reader.specs.declared.Cursor.{Cursor}
 use Rattle.reader.specs.declared.refusal.Reason.{Reason}
 use Rattle.reader.specs.declared.Step.{Step}
 use Rattle.reader.specs.declared.Step.TheVariants as step
@@ -44,21 +43,21 @@ pub record Seen (lists : Lists) (at kind : ℕ) : Type 0 where
 
 -- where a part ends that began at a place with so many records made: at least so many tokens on, within the list, with at most
 -- eight records more for a token and those of absent parts
-pub record Ends (reads slack : ℕ) (lists : Lists) (at made said count : ℕ) (d : Cursor) : Type 0 where
-  pub on : at + reads ≤ d.at
-  pub inside : d.at ≤ tokens lists
-  pub more : made ≤ d.made
-  pub room : d.made + 8 * at ≤ made + 8 * d.at + slack
-  pub counted : count ≤ d.at
+pub record Ends (reads slack : ℕ) (lists : Lists) (at made made' said count at' : ℕ) : Type 0 where
+  pub on : at + reads ≤ at'
+  pub inside : at' ≤ tokens lists
+  pub more : made ≤ made'
+  pub room : made' + 8 * at ≤ made + 8 * at' + slack
+  pub counted : count ≤ at'
   pub small : said ≤ 127
 
-abbrev pub WithinAt : ℕ → ℕ → Lists → ℕ → ℕ → Step → Type 0
-WithinAt reads slack lists at made (step.Got said count d) = Ends reads slack lists at made said count d
-WithinAt reads slack lists at made (step.Refused n p) = p ≤ tokens lists
+abbrev pub WithinAt : ℕ → ℕ → Lists → ℕ → ℕ → ℕ → Step → Type 0
+WithinAt reads slack lists at made made' (step.Got said count at') = Ends reads slack lists at made made' said count at'
+WithinAt reads slack lists at made made' (step.Refused n p) = p ≤ tokens lists
 
 -- what an answer is within: a part that ends so, or a refusal within the list
-pub record Within (reads slack : ℕ) (lists : Lists) (at made : ℕ) (r : Step) : Type 0 where
-  pub holds : WithinAt reads slack lists at made r
+pub record Within (reads slack : ℕ) (lists : Lists) (at made made' : ℕ) (r : Step) : Type 0 where
+  pub holds : WithinAt reads slack lists at made made' r
 
 -- a refusal at a place
 pub record Refuses (at : ℕ) (r : Step) : Type 0 where
@@ -67,7 +66,7 @@ pub record Refuses (at : ℕ) (r : Step) : Type 0 where
 
 -- what is read is one token
 abbrev pub OneOnAt : ℕ → Step → Type 0
-OneOnAt at (step.Got said count d) = d.at ≡ at + 1
+OneOnAt at (step.Got said count at') = at' ≡ at + 1
 OneOnAt at (step.Refused n p) = Unit {0}
 
 pub record OneOn (at : ℕ) (r : Step) : Type 0 where
@@ -75,22 +74,22 @@ pub record OneOn (at : ℕ) (r : Step) : Type 0 where
 
 -- what is read is a query, and there was room for one more
 abbrev pub OpensAt : Ask → Step → Type 0
-OpensAt ask (step.Got said count d) = queries_of ask < 16
+OpensAt ask (step.Got said count at') = queries_of ask < 16
 OpensAt ask (step.Refused n p) = Unit {0}
 
 pub record Opens (ask : Ask) (r : Step) : Type 0 where
   pub holds : OpensAt ask r
 
 -- NULL before `next` and a record more, or a refusal there
-abbrev pub NullBeforeAt : ℕ → ℕ → ℕ → Step → Type 0
-NullBeforeAt next made word (step.Got said count d) = (word ≡ 11) × (d.at ≡ next) × (d.made ≡ made + 1) × (count ≡ 0) × (said ≡ 12)
-NullBeforeAt next made word (step.Refused n p) = p ≡ next - 1
+abbrev pub NullBeforeAt : ℕ → ℕ → ℕ → ℕ → Step → Type 0
+NullBeforeAt next made made' word (step.Got said count at') = (word ≡ 11) × (at' ≡ next) × (made' ≡ made + 1) × (count ≡ 0) × (said ≡ 12)
+NullBeforeAt next made made' word (step.Refused n p) = p ≡ next - 1
 
-pub record NullBefore (next made word : ℕ) (r : Step) : Type 0 where
-  pub holds : NullBeforeAt next made word r
+pub record NullBefore (next made made' word : ℕ) (r : Step) : Type 0 where
+  pub holds : NullBeforeAt next made made' word r
 
-abbrev pub got_of : ℕ → ℕ → ℕ → ℕ → Step
-got_of said count at made = step.Got said count (record { at = at; made = made })
+abbrev pub got_of : ℕ → ℕ → ℕ → Step
+got_of said count at = step.Got said count at
 
 abbrev pub refusal_of : Reason → ℕ → Step
 refusal_of why at = step.Refused why at

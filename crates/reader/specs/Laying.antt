@@ -1,6 +1,6 @@
 -- What the reader's functions do, exactly: each does its walk (crate descent), which is to say that it answers as the walk does and that
 -- the walk's records stand in the table from `made` on, where it has room for them. Definitions only; nothing published rests on them.
-use Rattle.std.specs.Prelude.{Bool, true, List, [], ◌∷◌, ◌≡◌, ℕ, zero, suc, ◌+◌, ◌*◌, ◌≤◌, ◌<◌, eqb, ltb, get_or}
+use Rattle.std.specs.Prelude.{Bool, true, List, [], ◌∷◌, ◌++◌, length, ◌≡◌, ℕ, zero, suc, ◌+◌, ◌*◌, ◌≤◌, ◌<◌, eqb, ltb, get_or}
 use Rattle.theory.specs.Table.{both, mem}
 use Rattle.kinds.specs.Kinds.{NOT, NOTNULL, NULL, RP, STAR, COMMA, JOIN, JOIN_KW}
 use Rattle.kinds.specs.Classes.{begins_expr}
@@ -13,23 +13,39 @@ use Rattle.descent.proofs.Walk.{Walked, done, stop, bind, over, missing, opening
 use Rattle.descent.proofs.Fill.{Filled}
 use Rattle.reader.specs.declared.ask.Ask.{Ask}
 use Rattle.reader.specs.declared.lists.Lists.{Lists}
+use Rattle.reader.specs.declared.table.Table.{Table}
 use Rattle.reader.specs.Bounds.{kinds_of, texts_of}
 use Rattle.reader.specs.Refusals.{number_of}
 use Rattle.reader.specs.declared.refusal.Reason.{Reason}
 use Rattle.reader.specs.declared.Step.{Step}
 use Rattle.reader.specs.declared.Step.TheVariants as step
 
--- ── one walk, one answer ──
-abbrev pub LaidAt : ℕ → List ℕ → List ℕ → Walked → Step → Type 0
-LaidAt made N N' w (step.Got said count d) = (rs : List Rec) × (w ≡ done d.at said count rs) × Filled N N' made d.made rs
-LaidAt made N N' w (step.Refused why p) = w ≡ stop (number_of why) p
+-- ── records in the table ──
+-- from the table t to the table t' these records came, in the same list
+pub record Fills (t t' : Table) (rs : List Rec) : Type 0 where
+  pub same : t'.nodes.ghost_name ≡ t.nodes.ghost_name
+  pub filled : Filled t.nodes.now t'.nodes.now t.made t'.made rs
 
-pub record Laid (made : ℕ) (N N' : List ℕ) (w : Walked) (r : Step) : Type 0 where
-  pub holds : LaidAt made N N' w r
+-- the records from `mid` on came before those from `base`
+pub record Swaps (base mid : ℕ) (t t' : Table) : Type 0 where
+  pub kept : t'.made ≡ t.made
+  pub turns : (t₀ : Table) (rs qs : List Rec) → t₀.made ≡ base → mid ≡ base + length rs → Fills t₀ t (rs ++ qs) → Fills t₀ t' (qs ++ rs)
+
+-- ── one walk, one answer ──
+abbrev pub LaidAt : Table → Table → Walked → Step → Type 0
+LaidAt t t' w (step.Got said count at) = (rs : List Rec) × (w ≡ done at said count rs) × Fills t t' rs
+LaidAt t t' w (step.Refused why p) = w ≡ stop (number_of why) p
+
+pub record Laid (t t' : Table) (w : Walked) (r : Step) : Type 0 where
+  pub holds : LaidAt t t' w r
 
 -- of a walk over the lent lists
-abbrev pub Lays : ℕ → List ℕ → List ℕ → Lists → (List ℕ → List ℕ → Walked) → Step → Type 0
-Lays made N N' lists walk r = Laid made N N' (walk (kinds_of lists) (texts_of lists)) r
+abbrev pub Lays : Table → Table → Lists → (List ℕ → List ℕ → Walked) → Step → Type 0
+Lays t t' lists walk r = Laid t t' (walk (kinds_of lists) (texts_of lists)) r
+
+-- .. that makes no record, so whatever the table
+abbrev pub Still : Lists → (List ℕ → List ℕ → Walked) → Step → Type 0
+Still lists walk r = (t : Table) → Lays t t lists walk r
 
 -- ── fuel, and what is asked ──
 -- with enough fuel
@@ -52,12 +68,12 @@ pub record OpensOne (ask r : Ask) : Type 0 where
   pub opens : (c : Around) → Packed c 0 ask → c.opened < 16 → Packed (opening c) 1 r
 
 -- a walk for which strength s is asked
-pub record Does (s : ℕ) (ask : Ask) (made : ℕ) (N N' : List ℕ) (lists : Lists) (walk : List ℕ → List ℕ → ℕ → Around → Walked) (r : Step) : Type 0 where
-  pub does : (c : Around) → Packed c s ask → Later (λ f. Laid made N N' (walk (kinds_of lists) (texts_of lists) f c) r)
+pub record Does (s : ℕ) (ask : Ask) (t t' : Table) (lists : Lists) (walk : List ℕ → List ℕ → ℕ → Around → Walked) (r : Step) : Type 0 where
+  pub does : (c : Around) → Packed c s ask → Later (λ f. Laid t t' (walk (kinds_of lists) (texts_of lists) f c) r)
 
 -- a loop: whatever the walk w' comes to from here on, the walk w comes to from its beginning on
-pub record Onward (start made : ℕ) (N N₁ : List ℕ) (w w' : ℕ → Walked) : Type 0 where
-  pub on : (r : Step) (N' : List ℕ) → Later (λ f. Laid made N₁ N' (w' f) r) → Later (λ f. Laid start N N' (w f) r)
+pub record Onward (t t₁ : Table) (w w' : ℕ → Walked) : Type 0 where
+  pub on : (r : Step) (t' : Table) → Later (λ f. Laid t₁ t' (w' f) r) → Later (λ f. Laid t t' (w f) r)
 
 -- ── answers and records that several functions make ──
 -- a refusal with this number, at this place

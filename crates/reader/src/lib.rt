@@ -5,15 +5,16 @@
 mod ask;
 mod lists;
 mod refusal;
+mod table;
 
 ghost use Rattle.std.specs.Prelude.{◌≡◌, ℕ, ◌+◌, ◌-◌, ◌*◌, ◌/◌, ◌<◌, ◌≤◌, min, true, List, [], ◌∷◌, ◌++◌, eqb, length, get_or};
 ghost use Rattle.kinds.specs.Kinds.{STAR, AS};
 ghost use Rattle.kinds.specs.Fit.{fits};
 ghost use Rattle.grammar.specs.Nodes.{Rec};
 ghost use Rattle.grammar.specs.Reading.{choose};
-ghost use Rattle.descent.proofs.Fill.{Filled};
+ghost use Rattle.reader.specs.declared.table.Table.{Table};
 ghost use Rattle.descent.proofs.Walk.{done, bind, deeper, name_rec, name_w, close_w, dotted_w, dots_w, called_w, collate_w, alias_w, qualified_w, index_w, table_w, lent_w, nulls_w, way_w, joined_w, using_w, ended_w, expr_w, leaf_w, operand_w, ops_w, op_w, binary_w, range_w, after_w, among_w, list_w, sign_w, call_w, paren_w, sub_w, exists_w, case_w, cased_w, when_w, cast_w, query_w, body_w, tail_w, row_w, select_w, parts_w, clause_w, group_w, cols_w, col_w, from_w, joins_w, on_w, source_w, sort_w, limit_w, command_w};
-ghost use Rattle.reader.specs.Laying.{Laid, Lays, Later, Does, Misfit, TooDeep, one, absences, name_at, literal_text, not_null_w, all_rows_w, is_bare, begins_join, FitLists, UnfitAt};
+ghost use Rattle.reader.specs.Laying.{Laid, Lays, Still, Fills, Later, Does, Misfit, TooDeep, one, absences, name_at, literal_text, not_null_w, all_rows_w, is_bare, begins_join, FitLists, UnfitAt};
 ghost use Rattle.reader.specs.Turning.{Turned};
 ghost use Rattle.reader.specs.Likes.{greatest_like};
 ghost use Rattle.reader.specs.Bounds.{tokens, kinds_of, texts_of, queries_of, strength_asked, Shallow, Ready, Seen, Within, Refuses, OneOn, Opens, NullBefore, got_of, refusal_of};
@@ -32,13 +33,7 @@ use kinds::{
 };
 use lists::Lists;
 pub use refusal::{Reason, Refusal};
-
-// The place of the next token, and the records made.
-#[derive(Clone, Copy)]
-pub struct Cursor {
-    pub at: u32,
-    pub made: u32,
-}
+use table::Table;
 
 // Two cases of its own, and no Result: document 01 names the form, let .. else on Got or Refused at each call.
 // Got: what a part says (the strength of an expression, the mode of an alias, the detail of a join), how many
@@ -46,7 +41,7 @@ pub struct Cursor {
 #[derive(Clone, Copy)]
 pub enum Step {
     Refused(Reason, u16),
-    Got(u8, u16, Cursor),
+    Got(u8, u16, u32),
 }
 
 // 01's limits, and how many numbers a record has.
@@ -97,7 +92,7 @@ fn refused(why: Reason, at: u32) -> Step
     requires { at < 65536 }
     ensures { result ≡ refusal_of why at }
 {
-    let mut r = got(0, 0, 0);
+    let mut r = got(0, 0);
     r = Step::Refused(why, at as u16);
     r
 }
@@ -113,101 +108,51 @@ fn wrong(kind: u32, at: u32) -> Step
     refused(Reason::CannotFollow, at)
 }
 
-fn got(at: u32, made: u32, said: u8) -> Step
-    ensures { result ≡ got_of said 0 at made }
+fn got(at: u32, said: u8) -> Step
+    ensures { result ≡ got_of said 0 at }
 {
-    Step::Got(said, 0, Cursor { at, made })
+    Step::Got(said, 0, at)
 }
 
-fn counted(at: u32, made: u32, n: u32) -> Step
+fn counted(at: u32, n: u32) -> Step
     requires { n < 65536 }
-    ensures { result ≡ got_of 0 n at made }
+    ensures { result ≡ got_of 0 n at }
 {
-    Step::Got(0, n as u16, Cursor { at, made })
-}
-
-// Stores a record as the one numbered `made`, if it fits whole, and counts it.
-fn emit(nodes: &mut [u32], made: u32, code: u32, detail: u32, children: u32, size: u32) -> u32
-    requires { made < 65536 }
-    ensures { (result ≡ made + 1) × Filled nodes.old nodes.new made result (one code detail children size) }
-{
-    store(nodes, made, code, detail, children, size)
-}
-
-fn store(nodes: &mut [u32], made: u32, code: u32, detail: u32, children: u32, size: u32) -> u32
-    requires { made < 65536 }
-    ensures { (result ≡ made + 1) × Filled nodes.old nodes.new made result (one code detail children size) }
-{
-    let base = made as usize * WIDTH;
-    if base + WIDTH <= nodes.len() {
-        nodes[base] = code;
-        nodes[base + 1] = detail;
-        nodes[base + 2] = children;
-        nodes[base + 3] = size;
-    }
-    made + 1
-}
-
-// Missing parts, n side by side.
-fn absent(nodes: &mut [u32], made: u32, n: u32) -> u32
-    requires { (made < 65536) × (n < 16) }
-    ensures { (result ≡ made + n) × Filled nodes.old nodes.new made result (absences n) }
-{
-    if n == 1 {
-        return emit(nodes, made, node::ABSENT, 0, 0, 1);
-    }
-    missing(nodes, made, n)
-}
-
-fn missing(nodes: &mut [u32], made: u32, n: u32) -> u32
-    requires { (made < 65536) × (n < 16) }
-    ensures { (result ≡ made + n) × Filled nodes.old nodes.new made result (absences n) }
-{
-    for i in made..made + n {
-        let base = i as usize * WIDTH;
-        if base + WIDTH > nodes.len() {
-            break;
-        }
-        nodes[base] = node::ABSENT;
-        nodes[base + 1] = 0;
-        nodes[base + 2] = 0;
-        nodes[base + 3] = 1;
-    }
-    made + n
+    Step::Got(0, n as u16, at)
 }
 
 // A name, of which the kind is known.
-fn named(lists: &Lists, nodes: &mut [u32], at: u32, made: u32, kind: u32) -> u32
-    requires { Ready 0 lists.now at made × (at < tokens lists.now) }
-    ensures { (result ≡ made + 1) × (kind ≡ get_or (kinds_of lists.now) at 0 → Filled nodes.old nodes.new made result (name_at lists.now at)) }
+fn named(lists: &Lists, table: &mut Table, at: u32, kind: u32)
+    requires { Ready 0 lists.now at table.old.made × (at < tokens lists.now) }
+    ensures { (table.new.made ≡ table.old.made + 1) × (kind ≡ get_or (kinds_of lists.now) at 0 → Fills table.old table.new (name_at lists.now at)) }
 {
     let code = kinds::name_code(kind).unwrap_or(node::ABSENT);
-    emit(nodes, made, code, text(lists, at), 0, 1)
+    table.emit(code, text(lists, at), 0, 1);
 }
 
-fn name(lists: &Lists, nodes: &mut [u32], at: u32, made: u32) -> Step
-    requires { Ready 0 lists.now at made }
-    ensures { Within 1 0 lists.now at made result × OneOn at result × Lays made nodes.old nodes.new lists.now (λ K T. name_w K T at) result }
+fn name(lists: &Lists, table: &mut Table, at: u32) -> Step
+    requires { Ready 0 lists.now at table.old.made }
+    ensures { Within 1 0 lists.now at table.old.made table.new.made result × OneOn at result × Lays table.old table.new lists.now (λ K T. name_w K T at) result }
 {
     let kind = peek(lists, at);
     if !kinds::is_name(kind) {
         return wrong(kind, at);
     }
-    let m = named(lists, nodes, at, made, kind);
-    got(at + 1, m, 0)
+    named(lists, table, at, kind);
+    got(at + 1, 0)
 }
 
 // Expects RP, and closes over n children with a record.
-fn close(lists: &Lists, nodes: &mut [u32], at: u32, made: u32, base: u32, code: u32, n: u32) -> Step
-    requires { Ready 0 lists.now at made × (base ≤ made) }
-    ensures { Within 1 0 lists.now at made result × ((pre : ℕ) → made ≡ base + pre → Lays made nodes.old nodes.new lists.now (λ K T. close_w K T at code 0 n pre) result) }
+fn close(lists: &Lists, table: &mut Table, at: u32, base: u32, code: u32, n: u32) -> Step
+    requires { Ready 0 lists.now at table.old.made × (base ≤ table.old.made) }
+    ensures { Within 1 0 lists.now at table.old.made table.new.made result × ((pre : ℕ) → table.old.made ≡ base + pre → Lays table.old table.new lists.now (λ K T. close_w K T at code 0 n pre) result) }
 {
     let kind = peek(lists, at);
     if kind != RP {
         return wrong(kind, at);
     }
-    let m = emit(nodes, made, code, 0, n, made - base + 1);
-    got(at + 1, m, WHOLE)
+    table.emit(code, 0, n, table.made - base + 1);
+    got(at + 1, WHOLE)
 }
 
 // ---- expressions
@@ -224,63 +169,64 @@ fn literal_text(lists: &Lists, at: u32, kind: u32) -> u32
 
 // Through a function of its own, which is taken into each caller: so the places of its answer are shared there, and frames are small.
 #[cycle(walk)]
-fn expr(lists: &Lists, nodes: &mut [u32], at: u32, made: u32, ask: Ask) -> Step
-    requires { Ready 0 lists.now at made }
-    ensures { Within 1 0 lists.now at made result × ((s : ℕ) → Does s ask made nodes.old nodes.new lists.now (λ K T f c. expr_w K T f at c s) result) }
+fn expr(lists: &Lists, table: &mut Table, at: u32, ask: Ask) -> Step
+    requires { Ready 0 lists.now at table.old.made }
+    ensures { Within 1 0 lists.now at table.old.made table.new.made result × ((s : ℕ) → Does s ask table.old table.new lists.now (λ K T f c. expr_w K T f at c s) result) }
 {
-    ex(lists, nodes, at, made, ask)
+    ex(lists, table, at, ask)
 }
 
 // An operand, and the operators that go on from it.
 #[cycle(walk)]
-fn ex(lists: &Lists, nodes: &mut [u32], at: u32, made: u32, ask: Ask) -> Step
-    requires { Ready 0 lists.now at made }
-    ensures { Within 1 0 lists.now at made result × ((s : ℕ) → Does s ask made nodes.old nodes.new lists.now (λ K T f c. expr_w K T f at c s) result) }
+fn ex(lists: &Lists, table: &mut Table, at: u32, ask: Ask) -> Step
+    requires { Ready 0 lists.now at table.old.made }
+    ensures { Within 1 0 lists.now at table.old.made table.new.made result × ((s : ℕ) → Does s ask table.old table.new lists.now (λ K T f c. expr_w K T f at c s) result) }
 {
+    let base = table.made;
     let kind = peek(lists, at);
     if ask.level() > LEVELS {
         return too_deep(kind, at, ask);
     }
     let first = match kind {
-        ID..=NULL => leaf(lists, nodes, at, made, kind, ask),
-        _ => operand(lists, nodes, at, made, kind, ask),
+        ID..=NULL => leaf(lists, table, at, kind, ask),
+        _ => operand(lists, table, at, kind, ask),
     };
     let Step::Got(s_d, _, d) = first else {
         return first;
     };
-    ops(lists, nodes, d.at, d.made, made, s_d as u32, ask)
+    ops(lists, table, d, base, s_d as u32, ask)
 }
 
 #[cycle(walk)]
-fn leaf(lists: &Lists, nodes: &mut [u32], at: u32, made: u32, kind: u32, ask: Ask) -> Step
-    requires { Ready 0 lists.now at made × Shallow ask × (at < tokens lists.now) × Seen lists.now at kind × (0 < kind) × (kind ≤ 11) }
-    ensures { Within 1 0 lists.now at made result × ((s : ℕ) → Does s ask made nodes.old nodes.new lists.now (λ K T f c. leaf_w K T f at c s) result) }
+fn leaf(lists: &Lists, table: &mut Table, at: u32, kind: u32, ask: Ask) -> Step
+    requires { Ready 0 lists.now at table.old.made × Shallow ask × (at < tokens lists.now) × Seen lists.now at kind × (0 < kind) × (kind ≤ 11) }
+    ensures { Within 1 0 lists.now at table.old.made table.new.made result × ((s : ℕ) → Does s ask table.old table.new lists.now (λ K T f c. leaf_w K T f at c s) result) }
 {
     if let Some(code) = kinds::literal_code(kind) {
-        let m = emit(nodes, made, code, literal_text(lists, at, kind), 0, 1);
-        return got(at + 1, m, WHOLE);
+        table.emit(code, literal_text(lists, at, kind), 0, 1);
+        return got(at + 1, WHOLE);
     }
-    let m = named(lists, nodes, at, made, kind);
+    named(lists, table, at, kind);
     let next = peek(lists, at + 1);
     if next == LP {
         if kind != INDEXED {
-            return call(lists, nodes, at + 2, m, ask.deeper(1));
+            return call(lists, table, at + 2, ask.deeper(1));
         }
     }
-    dotted(lists, nodes, at + 1, m, next, ask.strength())
+    dotted(lists, table, at + 1, next, ask.strength())
 }
 
 #[cycle(walk)]
-fn operand(lists: &Lists, nodes: &mut [u32], at: u32, made: u32, kind: u32, ask: Ask) -> Step
-    requires { Ready 0 lists.now at made × Shallow ask × Seen lists.now at kind }
-    ensures { Within 1 0 lists.now at made result × ((s : ℕ) → Does s ask made nodes.old nodes.new lists.now (λ K T f c. operand_w K T f at c s) result) }
+fn operand(lists: &Lists, table: &mut Table, at: u32, kind: u32, ask: Ask) -> Step
+    requires { Ready 0 lists.now at table.old.made × Shallow ask × Seen lists.now at kind }
+    ensures { Within 1 0 lists.now at table.old.made table.new.made result × ((s : ℕ) → Does s ask table.old table.new lists.now (λ K T f c. operand_w K T f at c s) result) }
 {
     match kind {
-        LP => paren(lists, nodes, at + 1, made, ask.deeper(1)),
-        CASE => case(lists, nodes, at + 1, made, ask.deeper(1)),
-        CAST => cast(lists, nodes, at + 1, made, ask.deeper(1)),
-        EXISTS => exists(lists, nodes, at + 1, made, ask.deeper(1)),
-        NOT | PLUS | MINUS | BITNOT => sign(lists, nodes, at, made, kind, ask),
+        LP => paren(lists, table, at + 1, ask.deeper(1)),
+        CASE => case(lists, table, at + 1, ask.deeper(1)),
+        CAST => cast(lists, table, at + 1, ask.deeper(1)),
+        EXISTS => exists(lists, table, at + 1, ask.deeper(1)),
+        NOT | PLUS | MINUS | BITNOT => sign(lists, table, at, kind, ask),
         _ => wrong(kind, at),
     }
 }
@@ -303,21 +249,12 @@ fn too_deep(kind: u32, at: u32, ask: Ask) -> Step
 
 // The operators that go on from an operand that leaves `first`: the tightest of them that may.
 #[cycle(walk)]
-fn ops(
-    lists: &Lists,
-    nodes: &mut [u32],
-    from: u32,
-    start: u32,
-    base: u32,
-    first: u32,
-    ask: Ask,
-) -> Step
-    requires { Ready 0 lists.now from start × Shallow ask × (base ≤ start) × (first ≤ 127) }
-    ensures { Within 0 0 lists.now from start result × ((s pre : ℕ) → start ≡ base + pre → Does s ask start nodes.old nodes.new lists.now (λ K T f c. ops_w K T f from c s first pre) result) }
+fn ops(lists: &Lists, table: &mut Table, from: u32, base: u32, first: u32, ask: Ask) -> Step
+    requires { Ready 0 lists.now from table.old.made × Shallow ask × (base ≤ table.old.made) × (first ≤ 127) }
+    ensures { Within 0 0 lists.now from table.old.made table.new.made result × ((s pre : ℕ) → table.old.made ≡ base + pre → Does s ask table.old table.new lists.now (λ K T f c. ops_w K T f from c s first pre) result) }
 {
     let s = ask.strength();
     let mut at = from;
-    let mut made = start;
     let mut left = first;
     loop {
         let kind = peek(lists, at);
@@ -331,25 +268,24 @@ fn ops(
         if left < k {
             break;
         }
-        let r = op(lists, nodes, at, made, base, kind, ask.deeper(k + 1));
+        let r = op(lists, table, at, base, kind, ask.deeper(k + 1));
         let Step::Got(said, _, d) = r else {
             return r;
         };
-        at = d.at;
-        made = d.made;
+        at = d;
         // No more than its own strength, nor than its right operand leaves.
         left = k.min(said as u32);
     }
-    got(at, made, left as u8)
+    got(at, left as u8)
 }
 
 #[cycle(walk)]
-fn op(lists: &Lists, nodes: &mut [u32], at: u32, made: u32, base: u32, kind: u32, ask: Ask) -> Step
-    requires { Ready 0 lists.now at made × (base ≤ made) × Seen lists.now at kind × (0 < kind) }
-    ensures { Within 1 0 lists.now at made result × ((s pre : ℕ) → made ≡ base + pre → Does s ask made nodes.old nodes.new lists.now (λ K T f c. op_w K T f at c s pre) result) }
+fn op(lists: &Lists, table: &mut Table, at: u32, base: u32, kind: u32, ask: Ask) -> Step
+    requires { Ready 0 lists.now at table.old.made × (base ≤ table.old.made) × Seen lists.now at kind × (0 < kind) }
+    ensures { Within 1 0 lists.now at table.old.made table.new.made result × ((s pre : ℕ) → table.old.made ≡ base + pre → Does s ask table.old table.new lists.now (λ K T f c. op_w K T f at c s pre) result) }
 {
     if kind < NOT {
-        return binary(lists, nodes, at + 1, made, base, kind, ask);
+        return binary(lists, table, at + 1, base, kind, ask);
     }
     let not: u32 = if kind == NOT { 1 } else { 0 };
     let word = if kind == NOT {
@@ -359,139 +295,113 @@ fn op(lists: &Lists, nodes: &mut [u32], at: u32, made: u32, base: u32, kind: u32
     };
     let next = at + not + 1;
     match word {
-        IN => among(lists, nodes, next, made, base, not, ask),
-        BETWEEN => range(lists, nodes, next, made, base, not, ask),
+        IN => among(lists, table, next, base, not, ask),
+        BETWEEN => range(lists, table, next, base, not, ask),
         LIKE_KW => binary(
             lists,
-            nodes,
+            table,
             next,
-            made,
             base,
             node::LIKE + node::WORDS * not + text(lists, at + not),
             ask,
         ),
         _ => {
             if not == 1 {
-                return notnull(nodes, next, made, base, word);
+                return notnull(table, next, base, word);
             }
             match kind {
                 IS => {
                     let isnot: u32 = if peek(lists, next) == NOT { 1 } else { 0 };
                     binary(
                         lists,
-                        nodes,
+                        table,
                         next + isnot,
-                        made,
                         base,
                         IS + node::WORDS * isnot,
                         ask,
                     )
                 }
-                COLLATE => collate(lists, nodes, next, made, base),
+                COLLATE => collate(lists, table, next, base),
                 _ => {
-                    let m = emit(nodes, made, node::NULL_TEST, kind, 1, made - base + 1);
-                    got(next, m, WHOLE)
+                    table.emit(node::NULL_TEST, kind, 1, table.made - base + 1);
+                    got(next, WHOLE)
                 }
             }
         }
     }
 }
 
-fn notnull(nodes: &mut [u32], next: u32, made: u32, base: u32, word: u32) -> Step
-    requires { (0 < next) × (next < 65536) × (made < 65536) × (base ≤ made) }
-    ensures { NullBefore next made word result × ((pre : ℕ) → made ≡ base + pre → Laid made nodes.old nodes.new (not_null_w word next (next - 1) pre) result) }
+fn notnull(table: &mut Table, next: u32, base: u32, word: u32) -> Step
+    requires { (0 < next) × (next < 65536) × (table.old.made < 65536) × (base ≤ table.old.made) }
+    ensures { NullBefore next table.old.made table.new.made word result × ((pre : ℕ) → table.old.made ≡ base + pre → Laid table.old table.new (not_null_w word next (next - 1) pre) result) }
 {
     if word != NULL {
         return wrong(word, next - 1);
     }
-    let m = emit(nodes, made, node::NULL_TEST, NOTNULL, 1, made - base + 1);
-    got(next, m, WHOLE)
+    table.emit(node::NULL_TEST, NOTNULL, 1, table.made - base + 1);
+    got(next, WHOLE)
 }
 
 #[cycle(walk)]
-fn binary(
-    lists: &Lists,
-    nodes: &mut [u32],
-    at: u32,
-    made: u32,
-    base: u32,
-    detail: u32,
-    ask: Ask,
-) -> Step
-    requires { Ready 1 lists.now at made × (base ≤ made) }
-    ensures { Within 1 1 lists.now at made result × ((s pre : ℕ) → made ≡ base + pre → Does s ask made nodes.old nodes.new lists.now (λ K T f c. binary_w K T f at c s detail pre) result) }
+fn binary(lists: &Lists, table: &mut Table, at: u32, base: u32, detail: u32, ask: Ask) -> Step
+    requires { Ready 1 lists.now at table.old.made × (base ≤ table.old.made) }
+    ensures { Within 1 1 lists.now at table.old.made table.new.made result × ((s pre : ℕ) → table.old.made ≡ base + pre → Does s ask table.old table.new lists.now (λ K T f c. binary_w K T f at c s detail pre) result) }
 {
-    let r = expr(lists, nodes, at, made, ask);
+    let r = expr(lists, table, at, ask);
     let Step::Got(said, _, d) = r else {
         return r;
     };
-    let m = emit(nodes, d.made, node::BINARY, detail, 2, d.made - base + 1);
-    got(d.at, m, said)
+    table.emit(node::BINARY, detail, 2, table.made - base + 1);
+    got(d, said)
 }
 
-fn collate(lists: &Lists, nodes: &mut [u32], at: u32, made: u32, base: u32) -> Step
-    requires { Ready 1 lists.now at made × (base ≤ made) }
-    ensures { Within 1 1 lists.now at made result × ((pre : ℕ) → made ≡ base + pre → Lays made nodes.old nodes.new lists.now (λ K T. collate_w K T at pre) result) }
+fn collate(lists: &Lists, table: &mut Table, at: u32, base: u32) -> Step
+    requires { Ready 1 lists.now at table.old.made × (base ≤ table.old.made) }
+    ensures { Within 1 1 lists.now at table.old.made table.new.made result × ((pre : ℕ) → table.old.made ≡ base + pre → Lays table.old table.new lists.now (λ K T. collate_w K T at pre) result) }
 {
-    let r = name(lists, nodes, at, made);
+    let r = name(lists, table, at);
     let Step::Got(_, _, d) = r else {
         return r;
     };
-    let m = emit(nodes, d.made, node::COLLATE, 0, 2, d.made - base + 1);
-    got(d.at, m, WHOLE)
+    table.emit(node::COLLATE, 0, 2, table.made - base + 1);
+    got(d, WHOLE)
 }
 
 #[cycle(walk)]
-fn range(
-    lists: &Lists,
-    nodes: &mut [u32],
-    at: u32,
-    made: u32,
-    base: u32,
-    not: u32,
-    ask: Ask,
-) -> Step
-    requires { Ready 1 lists.now at made × (base ≤ made) }
-    ensures { Within 1 1 lists.now at made result × ((s pre : ℕ) → made ≡ base + pre → Does s ask made nodes.old nodes.new lists.now (λ K T f c. range_w K T f at c s not pre) result) }
+fn range(lists: &Lists, table: &mut Table, at: u32, base: u32, not: u32, ask: Ask) -> Step
+    requires { Ready 1 lists.now at table.old.made × (base ≤ table.old.made) }
+    ensures { Within 1 1 lists.now at table.old.made table.new.made result × ((s pre : ℕ) → table.old.made ≡ base + pre → Does s ask table.old table.new lists.now (λ K T f c. range_w K T f at c s not pre) result) }
 {
-    let low = expr(lists, nodes, at, made, ask);
+    let low = expr(lists, table, at, ask);
     let Step::Got(_, _, c) = low else {
         return low;
     };
-    let high = after(lists, nodes, c.at, c.made, AND, ask);
+    let high = after(lists, table, c, AND, ask);
     let Step::Got(said, _, e) = high else {
         return high;
     };
-    let m = emit(nodes, e.made, node::BETWEEN, not, 3, e.made - base + 1);
-    got(e.at, m, said)
+    table.emit(node::BETWEEN, not, 3, table.made - base + 1);
+    got(e, said)
 }
 
 // A word, and an expression.
 #[cycle(walk)]
-fn after(lists: &Lists, nodes: &mut [u32], at: u32, made: u32, word: u32, ask: Ask) -> Step
-    requires { Ready 0 lists.now at made × (0 < word) }
-    ensures { Within 1 0 lists.now at made result × ((s : ℕ) → Does s ask made nodes.old nodes.new lists.now (λ K T f c. after_w K T f at word c s) result) }
+fn after(lists: &Lists, table: &mut Table, at: u32, word: u32, ask: Ask) -> Step
+    requires { Ready 0 lists.now at table.old.made × (0 < word) }
+    ensures { Within 1 0 lists.now at table.old.made table.new.made result × ((s : ℕ) → Does s ask table.old table.new lists.now (λ K T f c. after_w K T f at word c s) result) }
 {
     let kind = peek(lists, at);
     if kind != word {
         return wrong(kind, at);
     }
-    expr(lists, nodes, at + 1, made, ask)
+    expr(lists, table, at + 1, ask)
 }
 
 // After IN.
 #[cycle(walk)]
-fn among(
-    lists: &Lists,
-    nodes: &mut [u32],
-    at: u32,
-    made: u32,
-    base: u32,
-    not: u32,
-    ask: Ask,
-) -> Step
-    requires { Ready 0 lists.now at made × (base ≤ made) }
-    ensures { Within 1 0 lists.now at made result × ((s pre : ℕ) → made ≡ base + pre → Does s ask made nodes.old nodes.new lists.now (λ K T f c. among_w K T f at c not pre) result) }
+fn among(lists: &Lists, table: &mut Table, at: u32, base: u32, not: u32, ask: Ask) -> Step
+    requires { Ready 0 lists.now at table.old.made × (base ≤ table.old.made) }
+    ensures { Within 1 0 lists.now at table.old.made table.new.made result × ((s pre : ℕ) → table.old.made ≡ base + pre → Does s ask table.old table.new lists.now (λ K T f c. among_w K T f at c not pre) result) }
 {
     let lp = peek(lists, at);
     if lp != LP {
@@ -500,149 +410,142 @@ fn among(
     let kind = peek(lists, at + 1);
     match kind {
         SELECT | VALUES => {
-            let q = query(lists, nodes, at + 1, made, ask.with(0));
+            let q = query(lists, table, at + 1, ask.with(0));
             let Step::Got(_, _, d) = q else {
                 return q;
             };
-            ended(lists, nodes, d.at, d.made, base, node::IN_QUERY, not)
+            ended(lists, table, d, base, node::IN_QUERY, not)
         }
         RP => {
-            let m = emit(nodes, made, node::LIST, 0, 0, 1);
-            ended(lists, nodes, at + 1, m, base, node::IN_LIST, not)
+            table.emit(node::LIST, 0, 0, 1);
+            ended(lists, table, at + 1, base, node::IN_LIST, not)
         }
         _ => {
-            let l = list(lists, nodes, at + 1, made, ask.with(1));
+            let start = table.made;
+            let l = list(lists, table, at + 1, ask.with(1));
             let Step::Got(_, n_d, d) = l else {
                 return l;
             };
-            let m = emit(nodes, d.made, node::LIST, 0, n_d as u32, d.made - made + 1);
-            ended(lists, nodes, d.at, m, base, node::IN_LIST, not)
+            table.emit(node::LIST, 0, n_d as u32, table.made - start + 1);
+            ended(lists, table, d, base, node::IN_LIST, not)
         }
     }
 }
 
 // RP of IN.
-fn ended(
-    lists: &Lists,
-    nodes: &mut [u32],
-    at: u32,
-    made: u32,
-    base: u32,
-    code: u32,
-    not: u32,
-) -> Step
-    requires { Ready 0 lists.now at made × (base ≤ made) }
-    ensures { Within 1 0 lists.now at made result × ((pre m : ℕ) (N : List ℕ) (rs : List Rec) → m ≡ base + pre → Filled N nodes.old m made rs → Lays m N nodes.new lists.now (λ K T. ended_w K T at code not pre rs) result) }
+fn ended(lists: &Lists, table: &mut Table, at: u32, base: u32, code: u32, not: u32) -> Step
+    requires { Ready 0 lists.now at table.old.made × (base ≤ table.old.made) }
+    ensures { Within 1 0 lists.now at table.old.made table.new.made result × ((pre : ℕ) (t : Table) (rs : List Rec) → t.made ≡ base + pre → Fills t table.old rs → Lays t table.new lists.now (λ K T. ended_w K T at code not pre rs) result) }
 {
     let kind = peek(lists, at);
     if kind != RP {
         return wrong(kind, at);
     }
-    let m = emit(nodes, made, code, not, 2, made - base + 1);
-    got(at + 1, m, WHOLE)
+    table.emit(code, not, 2, table.made - base + 1);
+    got(at + 1, WHOLE)
 }
 
 // { expression , }: says how many.
 #[cycle(walk)]
-fn list(lists: &Lists, nodes: &mut [u32], from: u32, start: u32, ask: Ask) -> Step
-    requires { Ready 0 lists.now from start }
-    ensures { Within 1 0 lists.now from start result × Does 1 ask start nodes.old nodes.new lists.now (λ K T f c. list_w K T f from c 0) result }
+fn list(lists: &Lists, table: &mut Table, from: u32, ask: Ask) -> Step
+    requires { Ready 0 lists.now from table.old.made }
+    ensures { Within 1 0 lists.now from table.old.made table.new.made result × Does 1 ask table.old table.new lists.now (λ K T f c. list_w K T f from c 0) result }
 {
     let mut at = from;
-    let mut made = start;
     let mut n: u32 = 0;
     loop {
-        let r = expr(lists, nodes, at, made, ask);
+        let r = expr(lists, table, at, ask);
         let Step::Got(_, _, d) = r else {
             return r;
         };
-        made = d.made;
         n += 1;
-        at = d.at;
+        at = d;
         let kind = peek(lists, at);
         if kind != COMMA {
             break;
         }
         at += 1;
     }
-    counted(at, made, n)
+    counted(at, n)
 }
 
 #[cycle(walk)]
-fn sign(lists: &Lists, nodes: &mut [u32], at: u32, made: u32, kind: u32, ask: Ask) -> Step
-    requires { Ready 0 lists.now at made × Shallow ask × (at < tokens lists.now) × Seen lists.now at kind }
-    ensures { Within 1 0 lists.now at made result × ((s : ℕ) → Does s ask made nodes.old nodes.new lists.now (λ K T f c. sign_w K T f at c s) result) }
+fn sign(lists: &Lists, table: &mut Table, at: u32, kind: u32, ask: Ask) -> Step
+    requires { Ready 0 lists.now at table.old.made × Shallow ask × (at < tokens lists.now) × Seen lists.now at kind }
+    ensures { Within 1 0 lists.now at table.old.made table.new.made result × ((s : ℕ) → Does s ask table.old table.new lists.now (λ K T f c. sign_w K T f at c s) result) }
 {
+    let base = table.made;
     let p = kinds::prefix(kind);
     if kind == NOT {
         if ask.strength() > NOT_STANDS {
             return wrong(kind, at);
         }
     }
-    let r = expr(lists, nodes, at + 1, made, ask.deeper(p));
+    let r = expr(lists, table, at + 1, ask.deeper(p));
     let Step::Got(said, _, d) = r else {
         return r;
     };
-    let m = emit(nodes, d.made, node::PREFIX, kind, 1, d.made - made + 1);
-    got(d.at, m, p.min(said as u32) as u8)
+    table.emit(node::PREFIX, kind, 1, table.made - base + 1);
+    got(d, p.min(said as u32) as u8)
 }
 
 // A call, or up to three names; in a column, name DOT STAR.
-fn dotted(lists: &Lists, nodes: &mut [u32], at: u32, made: u32, kind: u32, s: u32) -> Step
-    requires { Ready 1 lists.now at made × Seen lists.now at kind }
-    ensures { Within 0 1 lists.now at made result × Lays made nodes.old nodes.new lists.now (λ K T. dotted_w K T at s) result }
+fn dotted(lists: &Lists, table: &mut Table, at: u32, kind: u32, s: u32) -> Step
+    requires { Ready 1 lists.now at table.old.made × Seen lists.now at kind }
+    ensures { Within 0 1 lists.now at table.old.made table.new.made result × Lays table.old table.new lists.now (λ K T. dotted_w K T at s) result }
 {
     if kind != DOT {
-        let m = emit(nodes, made, node::NAMES, 0, 1, 2);
-        return got(at, m, WHOLE);
+        table.emit(node::NAMES, 0, 1, 2);
+        return got(at, WHOLE);
     }
     if s == COLUMN {
         if peek(lists, at + 1) == STAR {
-            let m = emit(nodes, made, node::NAME_STAR, 0, 1, 2);
-            return got(at + 2, m, 0);
+            table.emit(node::NAME_STAR, 0, 1, 2);
+            return got(at + 2, 0);
         }
     }
-    dots(lists, nodes, at, made)
+    dots(lists, table, at)
 }
 
 // DOT name [ DOT name ] after a name, and the record over them.
-fn dots(lists: &Lists, nodes: &mut [u32], at: u32, made: u32) -> Step
-    requires { Ready 0 lists.now at made × (at < tokens lists.now) }
-    ensures { Within 1 0 lists.now at made result × Lays made nodes.old nodes.new lists.now (λ K T. dots_w K T at) result }
+fn dots(lists: &Lists, table: &mut Table, at: u32) -> Step
+    requires { Ready 0 lists.now at table.old.made × (at < tokens lists.now) }
+    ensures { Within 1 0 lists.now at table.old.made table.new.made result × Lays table.old table.new lists.now (λ K T. dots_w K T at) result }
 {
-    let r = name(lists, nodes, at + 1, made);
+    let r = name(lists, table, at + 1);
     let Step::Got(_, _, c) = r else {
         return r;
     };
-    let next = peek(lists, c.at);
+    let next = peek(lists, c);
     if next != DOT {
-        let m = emit(nodes, c.made, node::NAMES, 0, 2, 3);
-        return got(c.at, m, WHOLE);
+        table.emit(node::NAMES, 0, 2, 3);
+        return got(c, WHOLE);
     }
-    let q = name(lists, nodes, c.at + 1, c.made);
+    let q = name(lists, table, c + 1);
     let Step::Got(_, _, d) = q else {
         return q;
     };
-    let m = emit(nodes, d.made, node::NAMES, 0, 3, 4);
-    got(d.at, m, WHOLE)
+    table.emit(node::NAMES, 0, 3, 4);
+    got(d, WHOLE)
 }
 
 // After LP of a call, whose name is the last record.
 #[cycle(walk)]
-fn call(lists: &Lists, nodes: &mut [u32], at: u32, made: u32, ask: Ask) -> Step
-    requires { Ready 0 lists.now at made }
-    ensures { Within 1 0 lists.now at made result × Does 1 ask made nodes.old nodes.new lists.now (λ K T f c. call_w K T f at c) result }
+fn call(lists: &Lists, table: &mut Table, at: u32, ask: Ask) -> Step
+    requires { Ready 0 lists.now at table.old.made }
+    ensures { Within 1 0 lists.now at table.old.made table.new.made result × Does 1 ask table.old table.new lists.now (λ K T f c. call_w K T f at c) result }
 {
+    let base = table.made;
     let kind = peek(lists, at);
     if is_bare(kind) {
-        return bare(lists, nodes, at, made, kind);
+        return bare(lists, table, at, kind);
     }
     let distinct: u32 = if kind == DISTINCT { 1 } else { 0 };
-    let r = list(lists, nodes, at + distinct, made, ask);
+    let r = list(lists, table, at + distinct, ask);
     let Step::Got(_, n_c, c) = r else {
         return r;
     };
-    called(lists, nodes, c.at, c.made, made, distinct, n_c as u32)
+    called(lists, table, c, base, distinct, n_c as u32)
 }
 
 // No argument, or STAR.
@@ -652,305 +555,294 @@ fn is_bare(kind: u32) -> bool
     matches!(kind, RP | STAR)
 }
 
-fn bare(lists: &Lists, nodes: &mut [u32], at: u32, made: u32, kind: u32) -> Step
-    requires { Ready 0 lists.now at made × Seen lists.now at kind }
-    ensures { Within 1 0 lists.now at made result × Lays made nodes.old nodes.new lists.now (λ K T. choose (eqb kind STAR) (called_w K T (at + 1) 2 0 []) (called_w K T at 0 0 [])) result }
+fn bare(lists: &Lists, table: &mut Table, at: u32, kind: u32) -> Step
+    requires { Ready 0 lists.now at table.old.made × Seen lists.now at kind }
+    ensures { Within 1 0 lists.now at table.old.made table.new.made result × Lays table.old table.new lists.now (λ K T. choose (eqb kind STAR) (called_w K T (at + 1) 2 0 []) (called_w K T at 0 0 [])) result }
 {
     if kind == STAR {
-        return called(lists, nodes, at + 1, made, made, 2, 0);
+        return called(lists, table, at + 1, table.made, 2, 0);
     }
-    called(lists, nodes, at, made, made, 0, 0)
+    called(lists, table, at, table.made, 0, 0)
 }
 
-fn called(
-    lists: &Lists,
-    nodes: &mut [u32],
-    at: u32,
-    made: u32,
-    base: u32,
-    detail: u32,
-    n: u32,
-) -> Step
-    requires { Ready 0 lists.now at made × (base ≤ made) }
-    ensures { Within 1 0 lists.now at made result × ((N : List ℕ) (rs : List Rec) → Filled N nodes.old base made rs → Lays base N nodes.new lists.now (λ K T. called_w K T at detail n rs) result) }
+fn called(lists: &Lists, table: &mut Table, at: u32, base: u32, detail: u32, n: u32) -> Step
+    requires { Ready 0 lists.now at table.old.made × (base ≤ table.old.made) }
+    ensures { Within 1 0 lists.now at table.old.made table.new.made result × ((t : Table) (rs : List Rec) → t.made ≡ base → Fills t table.old rs → Lays t table.new lists.now (λ K T. called_w K T at detail n rs) result) }
 {
     let kind = peek(lists, at);
     if kind != RP {
         return wrong(kind, at);
     }
-    let l = emit(nodes, made, node::LIST, 0, n, made - base + 1);
-    let m = emit(nodes, l, node::CALL, detail, 2, l - base + 2);
-    got(at + 1, m, WHOLE)
+    table.emit(node::LIST, 0, n, table.made - base + 1);
+    table.emit(node::CALL, detail, 2, table.made - base + 2);
+    got(at + 1, WHOLE)
 }
 
 // After LP: ( query ) or ( expressions ).
 #[cycle(walk)]
-fn paren(lists: &Lists, nodes: &mut [u32], at: u32, made: u32, ask: Ask) -> Step
-    requires { Ready 4 lists.now at made }
-    ensures { Within 1 4 lists.now at made result × Does 1 ask made nodes.old nodes.new lists.now (λ K T f c. paren_w K T f at c) result }
+fn paren(lists: &Lists, table: &mut Table, at: u32, ask: Ask) -> Step
+    requires { Ready 4 lists.now at table.old.made }
+    ensures { Within 1 4 lists.now at table.old.made table.new.made result × Does 1 ask table.old table.new lists.now (λ K T f c. paren_w K T f at c) result }
 {
+    let base = table.made;
     let kind = peek(lists, at);
     match kind {
-        SELECT | VALUES => sub(lists, nodes, at, made, node::SUBQUERY, ask),
+        SELECT | VALUES => sub(lists, table, at, node::SUBQUERY, ask),
         _ => {
-            let l = list(lists, nodes, at, made, ask);
+            let l = list(lists, table, at, ask);
             let Step::Got(_, n_d, d) = l else {
                 return l;
             };
-            close(lists, nodes, d.at, d.made, made, node::PARENS, n_d as u32)
+            close(lists, table, d, base, node::PARENS, n_d as u32)
         }
     }
 }
 
 #[cycle(walk)]
-fn sub(lists: &Lists, nodes: &mut [u32], at: u32, made: u32, code: u32, ask: Ask) -> Step
-    requires { Ready 4 lists.now at made }
-    ensures { Within 1 4 lists.now at made result × Does 1 ask made nodes.old nodes.new lists.now (λ K T f c. sub_w K T f at c code) result }
+fn sub(lists: &Lists, table: &mut Table, at: u32, code: u32, ask: Ask) -> Step
+    requires { Ready 4 lists.now at table.old.made }
+    ensures { Within 1 4 lists.now at table.old.made table.new.made result × Does 1 ask table.old table.new lists.now (λ K T f c. sub_w K T f at c code) result }
 {
-    let q = query(lists, nodes, at, made, ask.with(0));
+    let base = table.made;
+    let q = query(lists, table, at, ask.with(0));
     let Step::Got(_, _, d) = q else {
         return q;
     };
-    close(lists, nodes, d.at, d.made, made, code, 1)
+    close(lists, table, d, base, code, 1)
 }
 
 #[cycle(walk)]
-fn exists(lists: &Lists, nodes: &mut [u32], at: u32, made: u32, ask: Ask) -> Step
-    requires { Ready 0 lists.now at made }
-    ensures { Within 1 0 lists.now at made result × Does 1 ask made nodes.old nodes.new lists.now (λ K T f c. exists_w K T f at c) result }
+fn exists(lists: &Lists, table: &mut Table, at: u32, ask: Ask) -> Step
+    requires { Ready 0 lists.now at table.old.made }
+    ensures { Within 1 0 lists.now at table.old.made table.new.made result × Does 1 ask table.old table.new lists.now (λ K T f c. exists_w K T f at c) result }
 {
     let kind = peek(lists, at);
     if kind != LP {
         return wrong(kind, at);
     }
-    sub(lists, nodes, at + 1, made, node::EXISTS, ask)
+    sub(lists, table, at + 1, node::EXISTS, ask)
 }
 
 // After CASE.
 #[cycle(walk)]
-fn case(lists: &Lists, nodes: &mut [u32], at: u32, made: u32, ask: Ask) -> Step
-    requires { Ready 2 lists.now at made }
-    ensures { Within 1 2 lists.now at made result × Does 1 ask made nodes.old nodes.new lists.now (λ K T f c. case_w K T f at c) result }
+fn case(lists: &Lists, table: &mut Table, at: u32, ask: Ask) -> Step
+    requires { Ready 2 lists.now at table.old.made }
+    ensures { Within 1 2 lists.now at table.old.made table.new.made result × Does 1 ask table.old table.new lists.now (λ K T f c. case_w K T f at c) result }
 {
-    let b = cased(lists, nodes, at, made, ask);
+    let base = table.made;
+    let b = cased(lists, table, at, ask);
     let Step::Got(_, _, c) = b else {
         return b;
     };
-    let w = when(lists, nodes, c.at, c.made, ask);
+    let w = when(lists, table, c, ask);
     let Step::Got(_, n_d, d) = w else {
         return w;
     };
-    let e = clause(lists, nodes, d.at, d.made, ELSE, ask);
+    let e = clause(lists, table, d, ELSE, ask);
     let Step::Got(_, _, f) = e else {
         return e;
     };
-    let end = peek(lists, f.at);
+    let end = peek(lists, f);
     if end != END {
-        return wrong(end, f.at);
+        return wrong(end, f);
     }
-    let m = emit(
-        nodes,
-        f.made,
-        node::CASE,
-        0,
-        n_d as u32 + 2,
-        f.made - made + 1,
-    );
-    got(f.at + 1, m, WHOLE)
+    table.emit(node::CASE, 0, n_d as u32 + 2, table.made - base + 1);
+    got(f + 1, WHOLE)
 }
 
 #[cycle(walk)]
-fn cased(lists: &Lists, nodes: &mut [u32], at: u32, made: u32, ask: Ask) -> Step
-    requires { Ready 1 lists.now at made }
-    ensures { Within 0 1 lists.now at made result × Does 1 ask made nodes.old nodes.new lists.now (λ K T f c. cased_w K T f at c) result }
+fn cased(lists: &Lists, table: &mut Table, at: u32, ask: Ask) -> Step
+    requires { Ready 1 lists.now at table.old.made }
+    ensures { Within 0 1 lists.now at table.old.made table.new.made result × Does 1 ask table.old table.new lists.now (λ K T f c. cased_w K T f at c) result }
 {
     let kind = peek(lists, at);
     if kind == WHEN {
-        let m = absent(nodes, made, 1);
-        return got(at, m, 0);
+        table.absent(1);
+        return got(at, 0);
     }
-    expr(lists, nodes, at, made, ask)
+    expr(lists, table, at, ask)
 }
 
 // WHEN expression THEN expression, once or more: says how many expressions.
 #[cycle(walk)]
-fn when(lists: &Lists, nodes: &mut [u32], from: u32, start: u32, ask: Ask) -> Step
-    requires { Ready 0 lists.now from start }
-    ensures { Within 1 0 lists.now from start result × Does 1 ask start nodes.old nodes.new lists.now (λ K T f c. when_w K T f from c 0) result }
+fn when(lists: &Lists, table: &mut Table, from: u32, ask: Ask) -> Step
+    requires { Ready 0 lists.now from table.old.made }
+    ensures { Within 1 0 lists.now from table.old.made table.new.made result × Does 1 ask table.old table.new lists.now (λ K T f c. when_w K T f from c 0) result }
 {
     let mut at = from;
-    let mut made = start;
     let mut n: u32 = 0;
     loop {
-        let w = after(lists, nodes, at, made, WHEN, ask);
+        let w = after(lists, table, at, WHEN, ask);
         let Step::Got(_, _, c) = w else {
             return w;
         };
-        let t = after(lists, nodes, c.at, c.made, THEN, ask);
+        let t = after(lists, table, c, THEN, ask);
         let Step::Got(_, _, d) = t else {
             return t;
         };
-        at = d.at;
-        made = d.made;
+        at = d;
         n += 2;
         let kind = peek(lists, at);
         if kind != WHEN {
             break;
         }
     }
-    counted(at, made, n)
+    counted(at, n)
 }
 
 // After CAST.
 #[cycle(walk)]
-fn cast(lists: &Lists, nodes: &mut [u32], at: u32, made: u32, ask: Ask) -> Step
-    requires { Ready 0 lists.now at made }
-    ensures { Within 1 0 lists.now at made result × Does 1 ask made nodes.old nodes.new lists.now (λ K T f c. cast_w K T f at c) result }
+fn cast(lists: &Lists, table: &mut Table, at: u32, ask: Ask) -> Step
+    requires { Ready 0 lists.now at table.old.made }
+    ensures { Within 1 0 lists.now at table.old.made table.new.made result × Does 1 ask table.old table.new lists.now (λ K T f c. cast_w K T f at c) result }
 {
-    let e = after(lists, nodes, at, made, LP, ask);
+    let base = table.made;
+    let e = after(lists, table, at, LP, ask);
     let Step::Got(_, _, c) = e else {
         return e;
     };
-    let kind = peek(lists, c.at);
+    let kind = peek(lists, c);
     if kind != AS {
-        return wrong(kind, c.at);
+        return wrong(kind, c);
     }
-    let n = name(lists, nodes, c.at + 1, c.made);
+    let n = name(lists, table, c + 1);
     let Step::Got(_, _, f) = n else {
         return n;
     };
-    close(lists, nodes, f.at, f.made, made, node::CAST, 2)
+    close(lists, table, f, base, node::CAST, 2)
 }
 
 // ---- queries
 
 #[cycle(walk)]
-fn query(lists: &Lists, nodes: &mut [u32], at: u32, made: u32, ask: Ask) -> Step
-    requires { Ready 4 lists.now at made × (strength_asked ask ≡ 0) }
-    ensures { Within 1 4 lists.now at made result × Does 0 ask made nodes.old nodes.new lists.now (λ K T f c. query_w K T f at c) result }
+fn query(lists: &Lists, table: &mut Table, at: u32, ask: Ask) -> Step
+    requires { Ready 4 lists.now at table.old.made × (strength_asked ask ≡ 0) }
+    ensures { Within 1 4 lists.now at table.old.made table.new.made result × Does 0 ask table.old table.new lists.now (λ K T f c. query_w K T f at c) result }
 {
-    let b = body(lists, nodes, at, made, ask);
+    let base = table.made;
+    let b = body(lists, table, at, ask);
     let Step::Got(_, _, c) = b else {
         return b;
     };
-    let t = tail(lists, nodes, c.at, c.made, ask.opened());
+    let t = tail(lists, table, c, ask.opened());
     let Step::Got(_, _, d) = t else {
         return t;
     };
-    let m = emit(nodes, d.made, node::QUERY, 0, 4, d.made - made + 1);
-    got(d.at, m, 0)
+    table.emit(node::QUERY, 0, 4, table.made - base + 1);
+    got(d, 0)
 }
 
 #[cycle(walk)]
-fn body(lists: &Lists, nodes: &mut [u32], at: u32, made: u32, ask: Ask) -> Step
-    requires { Ready 0 lists.now at made × (strength_asked ask ≡ 0) }
-    ensures { Within 1 0 lists.now at made result × Opens ask result × Does 0 ask made nodes.old nodes.new lists.now (λ K T f c. body_w K T f at c) result }
+fn body(lists: &Lists, table: &mut Table, at: u32, ask: Ask) -> Step
+    requires { Ready 0 lists.now at table.old.made × (strength_asked ask ≡ 0) }
+    ensures { Within 1 0 lists.now at table.old.made table.new.made result × Opens ask result × Does 0 ask table.old table.new lists.now (λ K T f c. body_w K T f at c) result }
 {
     let kind = peek(lists, at);
     if kind == SELECT {
         if ask.queries() >= QUERIES {
             return Step::Refused(Reason::TooManyQueries, at as u16);
         }
-        return select(lists, nodes, at + 1, made, ask.opened());
+        return select(lists, table, at + 1, ask.opened());
     }
     if kind == VALUES {
         if ask.queries() >= QUERIES {
             return Step::Refused(Reason::TooManyQueries, at as u16);
         }
-        return rows(lists, nodes, at + 1, made, ask.opened());
+        return rows(lists, table, at + 1, ask.opened());
     }
     wrong(kind, at)
 }
 
 // ORDER BY and LIMIT.
 #[cycle(walk)]
-fn tail(lists: &Lists, nodes: &mut [u32], at: u32, made: u32, ask: Ask) -> Step
-    requires { Ready 3 lists.now at made }
-    ensures { Within 0 3 lists.now at made result × Does 1 ask made nodes.old nodes.new lists.now (λ K T f c. tail_w K T f at c) result }
+fn tail(lists: &Lists, table: &mut Table, at: u32, ask: Ask) -> Step
+    requires { Ready 3 lists.now at table.old.made }
+    ensures { Within 0 3 lists.now at table.old.made table.new.made result × Does 1 ask table.old table.new lists.now (λ K T f c. tail_w K T f at c) result }
 {
     let kind = peek(lists, at);
     match kind {
         ORDER => {
-            let o = sort(lists, nodes, at + 1, made, ask);
+            let o = sort(lists, table, at + 1, ask);
             let Step::Got(_, _, d) = o else {
                 return o;
             };
-            limit(lists, nodes, d.at, d.made, ask)
+            limit(lists, table, d, ask)
         }
         LIMIT => {
-            let m = absent(nodes, made, 1);
-            limit(lists, nodes, at, m, ask)
+            table.absent(1);
+            limit(lists, table, at, ask)
         }
         _ => {
-            let m = absent(nodes, made, 3);
-            got(at, m, 0)
+            table.absent(3);
+            got(at, 0)
         }
     }
 }
 
 // After VALUES: rows of one length.
 #[cycle(walk)]
-fn rows(lists: &Lists, nodes: &mut [u32], from: u32, base: u32, ask: Ask) -> Step
-    requires { Ready 1 lists.now from base }
-    ensures { Within 1 1 lists.now from base result × Does 1 ask base nodes.old nodes.new lists.now (λ K T f c. all_rows_w K T f from c) result }
+fn rows(lists: &Lists, table: &mut Table, from: u32, ask: Ask) -> Step
+    requires { Ready 1 lists.now from table.old.made }
+    ensures { Within 1 1 lists.now from table.old.made table.new.made result × Does 1 ask table.old table.new lists.now (λ K T f c. all_rows_w K T f from c) result }
 {
+    let base = table.made;
     let mut at = from;
-    let mut made = base;
     let mut rows: u32 = 0;
     let mut width: u32 = 0;
     loop {
-        let r = row(lists, nodes, at, made, width, ask);
+        let r = row(lists, table, at, width, ask);
         let Step::Got(_, n_d, d) = r else {
             return r;
         };
         width = n_d as u32;
         rows += 1;
-        at = d.at;
-        made = d.made;
+        at = d;
         let kind = peek(lists, at);
         if kind != COMMA {
             break;
         }
         at += 1;
     }
-    let m = emit(nodes, made, node::VALUES, 0, rows, made - base + 1);
-    got(at, m, 0)
+    table.emit(node::VALUES, 0, rows, table.made - base + 1);
+    got(at, 0)
 }
 
 // ( expressions ), as many as `width` unless that is 0: says how many.
 #[cycle(walk)]
-fn row(lists: &Lists, nodes: &mut [u32], at: u32, made: u32, width: u32, ask: Ask) -> Step
-    requires { Ready 0 lists.now at made }
-    ensures { Within 1 0 lists.now at made result × Does 1 ask made nodes.old nodes.new lists.now (λ K T f c. row_w K T f at c width) result }
+fn row(lists: &Lists, table: &mut Table, at: u32, width: u32, ask: Ask) -> Step
+    requires { Ready 0 lists.now at table.old.made }
+    ensures { Within 1 0 lists.now at table.old.made table.new.made result × Does 1 ask table.old table.new lists.now (λ K T f c. row_w K T f at c width) result }
 {
+    let base = table.made;
     let lp = peek(lists, at);
     if lp != LP {
         return wrong(lp, at);
     }
-    let r = list(lists, nodes, at + 1, made, ask);
+    let r = list(lists, table, at + 1, ask);
     let Step::Got(_, n_d, d) = r else {
         return r;
     };
-    let rp = peek(lists, d.at);
+    let rp = peek(lists, d);
     if rp != RP {
-        return wrong(rp, d.at);
+        return wrong(rp, d);
     }
     let n = n_d as u32;
     if width > 0 {
         if n != width {
-            return Step::Refused(Reason::RowLength, d.at as u16);
+            return Step::Refused(Reason::RowLength, d as u16);
         }
     }
-    let m = emit(nodes, d.made, node::LIST, 0, n, d.made - made + 1);
-    counted(d.at + 1, m, n)
+    table.emit(node::LIST, 0, n, table.made - base + 1);
+    counted(d + 1, n)
 }
 
 // After SELECT.
 #[cycle(walk)]
-fn select(lists: &Lists, nodes: &mut [u32], at: u32, made: u32, ask: Ask) -> Step
-    requires { Ready 8 lists.now at made }
-    ensures { Within 1 8 lists.now at made result × Does 1 ask made nodes.old nodes.new lists.now (λ K T f c. select_w K T f at c) result }
+fn select(lists: &Lists, table: &mut Table, at: u32, ask: Ask) -> Step
+    requires { Ready 8 lists.now at table.old.made }
+    ensures { Within 1 8 lists.now at table.old.made table.new.made result × Does 1 ask table.old table.new lists.now (λ K T f c. select_w K T f at c) result }
 {
+    let base = table.made;
     let kind = peek(lists, at);
     let detail: u32 = match kind {
         DISTINCT => 1,
@@ -958,64 +850,64 @@ fn select(lists: &Lists, nodes: &mut [u32], at: u32, made: u32, ask: Ask) -> Ste
         _ => 0,
     };
     let word: u32 = if detail > 0 { 1 } else { 0 };
-    let l = cols(lists, nodes, at + word, made, ask);
+    let l = cols(lists, table, at + word, ask);
     let Step::Got(_, n_c, c) = l else {
         return l;
     };
-    let listed = emit(nodes, c.made, node::LIST, 0, n_c as u32, c.made - made + 1);
-    let f = parts(lists, nodes, c.at, listed, ask);
+    table.emit(node::LIST, 0, n_c as u32, table.made - base + 1);
+    let f = parts(lists, table, c, ask);
     let Step::Got(_, _, d) = f else {
         return f;
     };
-    let m = emit(nodes, d.made, node::SELECT, detail, 5, d.made - made + 1);
-    got(d.at, m, 0)
+    table.emit(node::SELECT, detail, 5, table.made - base + 1);
+    got(d, 0)
 }
 
 // FROM, WHERE, GROUP BY, HAVING.
 #[cycle(walk)]
-fn parts(lists: &Lists, nodes: &mut [u32], at: u32, made: u32, ask: Ask) -> Step
-    requires { Ready 4 lists.now at made }
-    ensures { Within 0 4 lists.now at made result × Does 1 ask made nodes.old nodes.new lists.now (λ K T f c. parts_w K T f at c) result }
+fn parts(lists: &Lists, table: &mut Table, at: u32, ask: Ask) -> Step
+    requires { Ready 4 lists.now at table.old.made }
+    ensures { Within 0 4 lists.now at table.old.made table.new.made result × Does 1 ask table.old table.new lists.now (λ K T f c. parts_w K T f at c) result }
 {
     let kind = peek(lists, at);
     match kind {
         FROM | WHERE | GROUP | HAVING => {
-            let f = from(lists, nodes, at, made, kind, ask);
+            let f = from(lists, table, at, kind, ask);
             let Step::Got(_, _, d) = f else {
                 return f;
             };
-            let w = clause(lists, nodes, d.at, d.made, WHERE, ask);
+            let w = clause(lists, table, d, WHERE, ask);
             let Step::Got(_, _, e) = w else {
                 return w;
             };
-            group(lists, nodes, e.at, e.made, ask)
+            group(lists, table, e, ask)
         }
         _ => {
-            let m = absent(nodes, made, 4);
-            got(at, m, 0)
+            table.absent(4);
+            got(at, 0)
         }
     }
 }
 
 // An optional clause of a word and an expression.
 #[cycle(walk)]
-fn clause(lists: &Lists, nodes: &mut [u32], at: u32, made: u32, word: u32, ask: Ask) -> Step
-    requires { Ready 1 lists.now at made × (0 < word) }
-    ensures { Within 0 1 lists.now at made result × Does 1 ask made nodes.old nodes.new lists.now (λ K T f c. clause_w K T f at word c) result }
+fn clause(lists: &Lists, table: &mut Table, at: u32, word: u32, ask: Ask) -> Step
+    requires { Ready 1 lists.now at table.old.made × (0 < word) }
+    ensures { Within 0 1 lists.now at table.old.made table.new.made result × Does 1 ask table.old table.new lists.now (λ K T f c. clause_w K T f at word c) result }
 {
     let kind = peek(lists, at);
     if kind == word {
-        return expr(lists, nodes, at + 1, made, ask);
+        return expr(lists, table, at + 1, ask);
     }
-    let m = absent(nodes, made, 1);
-    got(at, m, 0)
+    table.absent(1);
+    got(at, 0)
 }
 
 // GROUP BY and HAVING.
 #[cycle(walk)]
-fn group(lists: &Lists, nodes: &mut [u32], at: u32, made: u32, ask: Ask) -> Step
-    requires { Ready 2 lists.now at made }
-    ensures { Within 0 2 lists.now at made result × Does 1 ask made nodes.old nodes.new lists.now (λ K T f c. group_w K T f at c) result }
+fn group(lists: &Lists, table: &mut Table, at: u32, ask: Ask) -> Step
+    requires { Ready 2 lists.now at table.old.made }
+    ensures { Within 0 2 lists.now at table.old.made table.new.made result × Does 1 ask table.old table.new lists.now (λ K T f c. group_w K T f at c) result }
 {
     let kind = peek(lists, at);
     match kind {
@@ -1024,40 +916,39 @@ fn group(lists: &Lists, nodes: &mut [u32], at: u32, made: u32, ask: Ask) -> Step
             if by != BY {
                 return wrong(by, at + 1);
             }
-            let r = list(lists, nodes, at + 2, made, ask);
+            let base = table.made;
+            let r = list(lists, table, at + 2, ask);
             let Step::Got(_, n_d, d) = r else {
                 return r;
             };
-            let m = emit(nodes, d.made, node::LIST, 0, n_d as u32, d.made - made + 1);
-            clause(lists, nodes, d.at, m, HAVING, ask)
+            table.emit(node::LIST, 0, n_d as u32, table.made - base + 1);
+            clause(lists, table, d, HAVING, ask)
         }
         HAVING => {
-            let m = emit(nodes, made, node::LIST, 0, 0, 1);
-            expr(lists, nodes, at + 1, m, ask)
+            table.emit(node::LIST, 0, 0, 1);
+            expr(lists, table, at + 1, ask)
         }
         _ => {
-            let m = absent(nodes, made, 2);
-            got(at, m, 0)
+            table.absent(2);
+            got(at, 0)
         }
     }
 }
 
 // Says how many.
 #[cycle(walk)]
-fn cols(lists: &Lists, nodes: &mut [u32], from: u32, base: u32, ask: Ask) -> Step
-    requires { Ready 2 lists.now from base }
-    ensures { Within 1 2 lists.now from base result × Does 1 ask base nodes.old nodes.new lists.now (λ K T f c. cols_w K T f from c 0) result }
+fn cols(lists: &Lists, table: &mut Table, from: u32, ask: Ask) -> Step
+    requires { Ready 2 lists.now from table.old.made }
+    ensures { Within 1 2 lists.now from table.old.made table.new.made result × Does 1 ask table.old table.new lists.now (λ K T f c. cols_w K T f from c 0) result }
 {
     let mut at = from;
-    let mut made = base;
     let mut n: u32 = 0;
     loop {
-        let r = col(lists, nodes, at, made, ask);
+        let r = col(lists, table, at, ask);
         let Step::Got(_, _, d) = r else {
             return r;
         };
-        made = d.made;
-        at = d.at;
+        at = d;
         n += 1;
         let kind = peek(lists, at);
         if kind != COMMA {
@@ -1065,107 +956,94 @@ fn cols(lists: &Lists, nodes: &mut [u32], from: u32, base: u32, ask: Ask) -> Ste
         }
         at += 1;
     }
-    counted(at, made, n)
+    counted(at, n)
 }
 
 #[cycle(walk)]
-fn col(lists: &Lists, nodes: &mut [u32], at: u32, made: u32, ask: Ask) -> Step
-    requires { Ready 2 lists.now at made }
-    ensures { Within 1 2 lists.now at made result × Does 1 ask made nodes.old nodes.new lists.now (λ K T f c. col_w K T f at c) result }
+fn col(lists: &Lists, table: &mut Table, at: u32, ask: Ask) -> Step
+    requires { Ready 2 lists.now at table.old.made }
+    ensures { Within 1 2 lists.now at table.old.made table.new.made result × Does 1 ask table.old table.new lists.now (λ K T f c. col_w K T f at c) result }
 {
+    let base = table.made;
     let kind = peek(lists, at);
     if kind == STAR {
-        let m = emit(nodes, made, node::STAR, 0, 0, 1);
-        return got(at + 1, m, 0);
+        table.emit(node::STAR, 0, 0, 1);
+        return got(at + 1, 0);
     }
-    let r = expr(lists, nodes, at, made, ask.with(COLUMN));
+    let r = expr(lists, table, at, ask.with(COLUMN));
     let Step::Got(s_d, _, d) = r else {
         return r;
     };
     if s_d == 0 {
         return r;
     }
-    let a = alias(lists, nodes, d.at, d.made);
+    let a = alias(lists, table, d);
     let Step::Got(s_e, _, e) = a else {
         return a;
     };
-    let m = emit(
-        nodes,
-        e.made,
-        node::COLUMN,
-        s_e as u32,
-        2,
-        e.made - made + 1,
-    );
-    got(e.at, m, 0)
+    table.emit(node::COLUMN, s_e as u32, 2, table.made - base + 1);
+    got(e, 0)
 }
 
 // Says the mode: 0 none, 1 AS, 2 bare.
-fn alias(lists: &Lists, nodes: &mut [u32], at: u32, made: u32) -> Step
-    requires { Ready 1 lists.now at made }
-    ensures { Within 0 1 lists.now at made result × Lays made nodes.old nodes.new lists.now (λ K T. alias_w K T at) result }
+fn alias(lists: &Lists, table: &mut Table, at: u32) -> Step
+    requires { Ready 1 lists.now at table.old.made }
+    ensures { Within 0 1 lists.now at table.old.made table.new.made result × Lays table.old table.new lists.now (λ K T. alias_w K T at) result }
 {
     let kind = peek(lists, at);
     match kind {
-        AS | ID | KWID | STRING => renamed(lists, nodes, at, made, kind),
+        AS | ID | KWID | STRING => renamed(lists, table, at, kind),
         _ => {
-            let m = absent(nodes, made, 1);
-            got(at, m, 0)
+            table.absent(1);
+            got(at, 0)
         }
     }
 }
 
-fn renamed(lists: &Lists, nodes: &mut [u32], at: u32, made: u32, kind: u32) -> Step
-    requires { Ready 0 lists.now at made × (at < tokens lists.now) }
-    ensures { Within 1 0 lists.now at made result × (Seen lists.now at kind → Lays made nodes.old nodes.new lists.now (λ K T. choose (eqb kind AS) (bind (name_w K T (at + 1)) (λ a s n rs. done a 1 0 rs)) (done (at + 1) 2 0 (name_rec K T at ∷ []))) result) }
+fn renamed(lists: &Lists, table: &mut Table, at: u32, kind: u32) -> Step
+    requires { Ready 0 lists.now at table.old.made × (at < tokens lists.now) }
+    ensures { Within 1 0 lists.now at table.old.made table.new.made result × (Seen lists.now at kind → Lays table.old table.new lists.now (λ K T. choose (eqb kind AS) (bind (name_w K T (at + 1)) (λ a s n rs. done a 1 0 rs)) (done (at + 1) 2 0 (name_rec K T at ∷ []))) result) }
 {
     if kind == AS {
-        let r = name(lists, nodes, at + 1, made);
+        let r = name(lists, table, at + 1);
         let Step::Got(_, _, d) = r else {
             return r;
         };
-        return got(d.at, d.made, 1);
+        return got(d, 1);
     }
-    let m = named(lists, nodes, at, made, kind);
-    got(at + 1, m, 2)
+    named(lists, table, at, kind);
+    got(at + 1, 2)
 }
 
 #[cycle(walk)]
-fn from(lists: &Lists, nodes: &mut [u32], at: u32, made: u32, kind: u32, ask: Ask) -> Step
-    requires { Ready 1 lists.now at made × Seen lists.now at kind }
-    ensures { Within 0 1 lists.now at made result × Does 1 ask made nodes.old nodes.new lists.now (λ K T f c. from_w K T f at c) result }
+fn from(lists: &Lists, table: &mut Table, at: u32, kind: u32, ask: Ask) -> Step
+    requires { Ready 1 lists.now at table.old.made × Seen lists.now at kind }
+    ensures { Within 0 1 lists.now at table.old.made table.new.made result × Does 1 ask table.old table.new lists.now (λ K T f c. from_w K T f at c) result }
 {
+    let base = table.made;
     if kind != FROM {
-        let m = absent(nodes, made, 1);
-        return got(at, m, 0);
+        table.absent(1);
+        return got(at, 0);
     }
-    let s = source(lists, nodes, at + 1, made, ask);
+    let s = source(lists, table, at + 1, ask);
     let Step::Got(_, _, c) = s else {
         return s;
     };
-    let j = joins(lists, nodes, c.at, c.made, ask);
+    let j = joins(lists, table, c, ask);
     let Step::Got(_, n_d, d) = j else {
         return j;
     };
-    let m = emit(
-        nodes,
-        d.made,
-        node::FROM,
-        0,
-        n_d as u32 + 1,
-        d.made - made + 1,
-    );
-    got(d.at, m, 0)
+    table.emit(node::FROM, 0, n_d as u32 + 1, table.made - base + 1);
+    got(d, 0)
 }
 
 // Says how many.
 #[cycle(walk)]
-fn joins(lists: &Lists, nodes: &mut [u32], from: u32, start: u32, ask: Ask) -> Step
-    requires { Ready 0 lists.now from start }
-    ensures { Within 0 0 lists.now from start result × Does 1 ask start nodes.old nodes.new lists.now (λ K T f c. joins_w K T f from c 0) result }
+fn joins(lists: &Lists, table: &mut Table, from: u32, ask: Ask) -> Step
+    requires { Ready 0 lists.now from table.old.made }
+    ensures { Within 0 0 lists.now from table.old.made table.new.made result × Does 1 ask table.old table.new lists.now (λ K T f c. joins_w K T f from c 0) result }
 {
     let mut at = from;
-    let mut made = start;
     let mut n: u32 = 0;
     loop {
         let kind = peek(lists, at);
@@ -1176,19 +1054,20 @@ fn joins(lists: &Lists, nodes: &mut [u32], from: u32, start: u32, ask: Ask) -> S
         let Step::Got(s_c, _, c) = j else {
             return j;
         };
-        let s = source(lists, nodes, c.at, made, ask);
+        let base = table.made;
+        let s = source(lists, table, c, ask);
         let Step::Got(_, _, d) = s else {
             return s;
         };
-        let o = on(lists, nodes, d.at, d.made, ask);
+        let o = on(lists, table, d, ask);
         let Step::Got(_, _, e) = o else {
             return o;
         };
-        made = emit(nodes, e.made, node::JOIN, s_c as u32, 2, e.made - made + 1);
-        at = e.at;
+        table.emit(node::JOIN, s_c as u32, 2, table.made - base + 1);
+        at = e;
         n += 1;
     }
-    counted(at, made, n)
+    counted(at, n)
 }
 
 fn begins_join(kind: u32) -> bool
@@ -1200,10 +1079,10 @@ fn begins_join(kind: u32) -> bool
 // COMMA, or up to three join words and JOIN: says the join's detail.
 fn joined(lists: &Lists, from: u32, first: u32) -> Step
     requires { Ready 0 lists.now from 0 × Seen lists.now from first }
-    ensures { Within 1 0 lists.now from 0 result × Lays 0 [] [] lists.now (λ K T. joined_w K T from) result }
+    ensures { Within 1 0 lists.now from 0 0 result × Still lists.now (λ K T. joined_w K T from) result }
 {
     if first == COMMA {
-        return got(from + 1, 0, 0);
+        return got(from + 1, 0);
     }
     let mut at = from;
     let mut flags: u32 = 0;
@@ -1226,52 +1105,52 @@ fn joined(lists: &Lists, from: u32, first: u32) -> Step
     if !words::legal(flags) {
         return Step::Refused(Reason::JoinFlags, at as u16);
     }
-    got(at + 1, 0, (node::FLAGS + flags) as u8)
+    got(at + 1, (node::FLAGS + flags) as u8)
 }
 
 // ON or USING, or nothing.
 #[cycle(walk)]
-fn on(lists: &Lists, nodes: &mut [u32], at: u32, made: u32, ask: Ask) -> Step
-    requires { Ready 1 lists.now at made }
-    ensures { Within 0 1 lists.now at made result × Does 1 ask made nodes.old nodes.new lists.now (λ K T f c. on_w K T f at c) result }
+fn on(lists: &Lists, table: &mut Table, at: u32, ask: Ask) -> Step
+    requires { Ready 1 lists.now at table.old.made }
+    ensures { Within 0 1 lists.now at table.old.made table.new.made result × Does 1 ask table.old table.new lists.now (λ K T f c. on_w K T f at c) result }
 {
     let kind = peek(lists, at);
     match kind {
         ON => {
-            let r = expr(lists, nodes, at + 1, made, ask);
+            let base = table.made;
+            let r = expr(lists, table, at + 1, ask);
             let Step::Got(_, _, d) = r else {
                 return r;
             };
-            let m = emit(nodes, d.made, node::ON, 0, 1, d.made - made + 1);
-            got(d.at, m, 0)
+            table.emit(node::ON, 0, 1, table.made - base + 1);
+            got(d, 0)
         }
-        USING => using(lists, nodes, at + 1, made),
+        USING => using(lists, table, at + 1),
         _ => {
-            let m = absent(nodes, made, 1);
-            got(at, m, 0)
+            table.absent(1);
+            got(at, 0)
         }
     }
 }
 
 // After USING.
-fn using(lists: &Lists, nodes: &mut [u32], from: u32, base: u32) -> Step
-    requires { Ready 0 lists.now from base }
-    ensures { Within 1 0 lists.now from base result × Later (λ f. Lays base nodes.old nodes.new lists.now (λ K T. using_w K T f from) result) }
+fn using(lists: &Lists, table: &mut Table, from: u32) -> Step
+    requires { Ready 0 lists.now from table.old.made }
+    ensures { Within 1 0 lists.now from table.old.made table.new.made result × Later (λ f. Lays table.old table.new lists.now (λ K T. using_w K T f from) result) }
 {
+    let base = table.made;
     let lp = peek(lists, from);
     if lp != LP {
         return wrong(lp, from);
     }
     let mut at = from + 1;
-    let mut made = base;
     let mut n: u32 = 0;
     loop {
-        let r = name(lists, nodes, at, made);
+        let r = name(lists, table, at);
         let Step::Got(_, _, d) = r else {
             return r;
         };
-        made = d.made;
-        at = d.at;
+        at = d;
         n += 1;
         let kind = peek(lists, at);
         if kind != COMMA {
@@ -1279,106 +1158,99 @@ fn using(lists: &Lists, nodes: &mut [u32], from: u32, base: u32) -> Step
         }
         at += 1;
     }
-    close(lists, nodes, at, made, base, node::USING, n)
+    close(lists, table, at, base, node::USING, n)
 }
 
 // As `expr`.
 #[cycle(walk)]
-fn source(lists: &Lists, nodes: &mut [u32], at: u32, made: u32, ask: Ask) -> Step
-    requires { Ready 4 lists.now at made }
-    ensures { Within 1 4 lists.now at made result × Does 1 ask made nodes.old nodes.new lists.now (λ K T f c. source_w K T f at c) result }
+fn source(lists: &Lists, table: &mut Table, at: u32, ask: Ask) -> Step
+    requires { Ready 4 lists.now at table.old.made }
+    ensures { Within 1 4 lists.now at table.old.made table.new.made result × Does 1 ask table.old table.new lists.now (λ K T f c. source_w K T f at c) result }
 {
-    src(lists, nodes, at, made, ask)
+    src(lists, table, at, ask)
 }
 
 // A table, or a query in brackets.
 #[cycle(walk)]
-fn src(lists: &Lists, nodes: &mut [u32], at: u32, made: u32, ask: Ask) -> Step
-    requires { Ready 4 lists.now at made }
-    ensures { Within 1 4 lists.now at made result × Does 1 ask made nodes.old nodes.new lists.now (λ K T f c. source_w K T f at c) result }
+fn src(lists: &Lists, table: &mut Table, at: u32, ask: Ask) -> Step
+    requires { Ready 4 lists.now at table.old.made }
+    ensures { Within 1 4 lists.now at table.old.made table.new.made result × Does 1 ask table.old table.new lists.now (λ K T f c. source_w K T f at c) result }
 {
+    let base = table.made;
     let kind = peek(lists, at);
     if kind != LP {
-        return table(lists, nodes, at, made);
+        return source_table(lists, table, at);
     }
-    let q = query(lists, nodes, at + 1, made, ask.with(0));
+    let q = query(lists, table, at + 1, ask.with(0));
     let Step::Got(_, _, c) = q else {
         return q;
     };
-    lent(lists, nodes, c.at, c.made, made)
+    lent(lists, table, c, base)
 }
 
 // RP and an optional alias after a query in FROM.
-fn lent(lists: &Lists, nodes: &mut [u32], at: u32, made: u32, base: u32) -> Step
-    requires { Ready 0 lists.now at made × (base ≤ made) }
-    ensures { Within 1 0 lists.now at made result × ((N : List ℕ) (rs : List Rec) → Filled N nodes.old base made rs → Lays base N nodes.new lists.now (λ K T. lent_w K T at rs) result) }
+fn lent(lists: &Lists, table: &mut Table, at: u32, base: u32) -> Step
+    requires { Ready 0 lists.now at table.old.made × (base ≤ table.old.made) }
+    ensures { Within 1 0 lists.now at table.old.made table.new.made result × ((t : Table) (rs : List Rec) → t.made ≡ base → Fills t table.old rs → Lays t table.new lists.now (λ K T. lent_w K T at rs) result) }
 {
     let rp = peek(lists, at);
     if rp != RP {
         return wrong(rp, at);
     }
-    let a = alias(lists, nodes, at + 1, made);
+    let a = alias(lists, table, at + 1);
     let Step::Got(s_e, _, e) = a else {
         return a;
     };
-    let m = emit(
-        nodes,
-        e.made,
-        node::QUERY_SOURCE,
-        s_e as u32,
-        2,
-        e.made - base + 1,
-    );
-    got(e.at, m, 0)
+    table.emit(node::QUERY_SOURCE, s_e as u32, 2, table.made - base + 1);
+    got(e, 0)
 }
 
-fn table(lists: &Lists, nodes: &mut [u32], at: u32, made: u32) -> Step
-    requires { Ready 4 lists.now at made }
-    ensures { Within 1 4 lists.now at made result × Lays made nodes.old nodes.new lists.now (λ K T. table_w K T at) result }
+fn source_table(lists: &Lists, table: &mut Table, at: u32) -> Step
+    requires { Ready 4 lists.now at table.old.made }
+    ensures { Within 1 4 lists.now at table.old.made table.new.made result × Lays table.old table.new lists.now (λ K T. table_w K T at) result }
 {
-    let t = qualified(lists, nodes, at, made);
+    let base = table.made;
+    let t = qualified(lists, table, at);
     let Step::Got(_, _, c) = t else {
         return t;
     };
-    let a = alias(lists, nodes, c.at, c.made);
+    let a = alias(lists, table, c);
     let Step::Got(s_d, _, d) = a else {
         return a;
     };
-    let x = index(lists, nodes, d.at, d.made);
+    let x = index(lists, table, d);
     let Step::Got(s_e, _, e) = x else {
         return x;
     };
-    let m = emit(
-        nodes,
-        e.made,
+    table.emit(
         node::TABLE,
         s_d as u32 + 4 * s_e as u32,
         4,
-        e.made - made + 1,
+        table.made - base + 1,
     );
-    got(e.at, m, 0)
+    got(e, 0)
 }
 
 // [ schema DOT ] name
-fn qualified(lists: &Lists, nodes: &mut [u32], at: u32, made: u32) -> Step
-    requires { Ready 1 lists.now at made }
-    ensures { Within 1 1 lists.now at made result × Lays made nodes.old nodes.new lists.now (λ K T. qualified_w K T at) result }
+fn qualified(lists: &Lists, table: &mut Table, at: u32) -> Step
+    requires { Ready 1 lists.now at table.old.made }
+    ensures { Within 1 1 lists.now at table.old.made table.new.made result × Lays table.old table.new lists.now (λ K T. qualified_w K T at) result }
 {
     if peek(lists, at + 1) == DOT {
-        let r = name(lists, nodes, at, made);
+        let r = name(lists, table, at);
         let Step::Got(_, _, d) = r else {
             return r;
         };
-        return name(lists, nodes, d.at + 1, d.made);
+        return name(lists, table, d + 1);
     }
-    let m = absent(nodes, made, 1);
-    name(lists, nodes, at, m)
+    table.absent(1);
+    name(lists, table, at)
 }
 
 // INDEXED BY name, NOT INDEXED or nothing: says 1, 2 or 0.
-fn index(lists: &Lists, nodes: &mut [u32], at: u32, made: u32) -> Step
-    requires { Ready 1 lists.now at made }
-    ensures { Within 0 1 lists.now at made result × Lays made nodes.old nodes.new lists.now (λ K T. index_w K T at) result }
+fn index(lists: &Lists, table: &mut Table, at: u32) -> Step
+    requires { Ready 1 lists.now at table.old.made }
+    ensures { Within 0 1 lists.now at table.old.made table.new.made result × Lays table.old table.new lists.now (λ K T. index_w K T at) result }
 {
     let kind = peek(lists, at);
     match kind {
@@ -1387,51 +1259,52 @@ fn index(lists: &Lists, nodes: &mut [u32], at: u32, made: u32) -> Step
             if by != BY {
                 return wrong(by, at + 1);
             }
-            let r = name(lists, nodes, at + 2, made);
+            let r = name(lists, table, at + 2);
             let Step::Got(_, _, d) = r else {
                 return r;
             };
-            got(d.at, d.made, 1)
+            got(d, 1)
         }
         NOT => {
             let x = peek(lists, at + 1);
             if x != INDEXED {
                 return wrong(x, at + 1);
             }
-            let m = absent(nodes, made, 1);
-            got(at + 2, m, 2)
+            table.absent(1);
+            got(at + 2, 2)
         }
         _ => {
-            let m = absent(nodes, made, 1);
-            got(at, m, 0)
+            table.absent(1);
+            got(at, 0)
         }
     }
 }
 
 // After ORDER.
 #[cycle(walk)]
-fn sort(lists: &Lists, nodes: &mut [u32], from: u32, base: u32, ask: Ask) -> Step
-    requires { Ready 0 lists.now from base }
-    ensures { Within 1 0 lists.now from base result × Does 1 ask base nodes.old nodes.new lists.now (λ K T f c. sort_w K T f from c) result }
+fn sort(lists: &Lists, table: &mut Table, from: u32, ask: Ask) -> Step
+    requires { Ready 0 lists.now from table.old.made }
+    ensures { Within 1 0 lists.now from table.old.made table.new.made result × Does 1 ask table.old table.new lists.now (λ K T f c. sort_w K T f from c) result }
 {
     let by = peek(lists, from);
     if by != BY {
         return wrong(by, from);
     }
+    let base = table.made;
     let mut at = from + 1;
-    let mut made = base;
     let mut n: u32 = 0;
     loop {
-        let r = expr(lists, nodes, at, made, ask);
+        let term = table.made;
+        let r = expr(lists, table, at, ask);
         let Step::Got(_, _, d) = r else {
             return r;
         };
-        let w = way(lists, d.at);
+        let w = way(lists, d);
         let Step::Got(s_e, _, e) = w else {
             return w;
         };
-        made = emit(nodes, d.made, node::SORT, s_e as u32, 1, d.made - made + 1);
-        at = e.at;
+        table.emit(node::SORT, s_e as u32, 1, table.made - term + 1);
+        at = e;
         n += 1;
         let kind = peek(lists, at);
         if kind != COMMA {
@@ -1439,14 +1312,14 @@ fn sort(lists: &Lists, nodes: &mut [u32], from: u32, base: u32, ask: Ask) -> Ste
         }
         at += 1;
     }
-    let m = emit(nodes, made, node::LIST, 0, n, made - base + 1);
-    got(at, m, 0)
+    table.emit(node::LIST, 0, n, table.made - base + 1);
+    got(at, 0)
 }
 
 // [ ASC or DESC ] [ NULLS FIRST or LAST ]: says the term's detail.
 fn way(lists: &Lists, at: u32) -> Step
     requires { Ready 0 lists.now at 0 }
-    ensures { Within 0 0 lists.now at 0 result × Lays 0 [] [] lists.now (λ K T. way_w K T at) result }
+    ensures { Within 0 0 lists.now at 0 0 result × Still lists.now (λ K T. way_w K T at) result }
 {
     let kind = peek(lists, at);
     match kind {
@@ -1458,79 +1331,51 @@ fn way(lists: &Lists, at: u32) -> Step
 
 fn nulls(lists: &Lists, at: u32, detail: u8) -> Step
     requires { Ready 0 lists.now at 0 × (detail ≤ 2) }
-    ensures { Within 0 0 lists.now at 0 result × Lays 0 [] [] lists.now (λ K T. nulls_w K T at detail) result }
+    ensures { Within 0 0 lists.now at 0 0 result × Still lists.now (λ K T. nulls_w K T at detail) result }
 {
     let kind = peek(lists, at);
     if kind != NULLS {
-        return got(at, 0, detail);
+        return got(at, detail);
     }
     let next = peek(lists, at + 1);
     match next {
-        FIRST => got(at + 2, 0, detail + 4),
-        LAST => got(at + 2, 0, detail + 8),
+        FIRST => got(at + 2, detail + 4),
+        LAST => got(at + 2, detail + 8),
         _ => wrong(next, at + 1),
     }
 }
 
 #[cycle(walk)]
-fn limit(lists: &Lists, nodes: &mut [u32], at: u32, made: u32, ask: Ask) -> Step
-    requires { Ready 2 lists.now at made }
-    ensures { Within 0 2 lists.now at made result × Does 1 ask made nodes.old nodes.new lists.now (λ K T f c. limit_w K T f at c) result }
+fn limit(lists: &Lists, table: &mut Table, at: u32, ask: Ask) -> Step
+    requires { Ready 2 lists.now at table.old.made }
+    ensures { Within 0 2 lists.now at table.old.made table.new.made result × Does 1 ask table.old table.new lists.now (λ K T f c. limit_w K T f at c) result }
 {
+    let base = table.made;
     let kind = peek(lists, at);
     if kind != LIMIT {
-        let m = absent(nodes, made, 2);
-        return got(at, m, 0);
+        table.absent(2);
+        return got(at, 0);
     }
-    let a = expr(lists, nodes, at + 1, made, ask);
+    let a = expr(lists, table, at + 1, ask);
     let Step::Got(_, _, c) = a else {
         return a;
     };
-    let next = peek(lists, c.at);
+    let mid = table.made;
+    let next = peek(lists, c);
     match next {
-        OFFSET => expr(lists, nodes, c.at + 1, c.made, ask),
+        OFFSET => expr(lists, table, c + 1, ask),
         COMMA => {
-            let b = expr(lists, nodes, c.at + 1, c.made, ask);
-            let Step::Got(_, _, d) = b else {
+            let b = expr(lists, table, c + 1, ask);
+            let Step::Got(_, _, _) = b else {
                 return b;
             };
-            rotate(nodes, made, c.made, d.made);
+            table.rotate(base, mid);
             b
         }
         _ => {
-            let m = absent(nodes, c.made, 1);
-            got(c.at, m, 0)
+            table.absent(1);
+            got(c, 0)
         }
-    }
-}
-
-// By three reversals, for the library's `rotate_left` costs a call 992 bytes of stack and a long list a tenth of its instructions.
-// Brings the records from `mid` on before those from `base`, where the table has room for them all.
-fn rotate(nodes: &mut [u32], base: u32, mid: u32, end: u32)
-    requires { (base ≤ mid) × (mid ≤ end) × (end < 65536) }
-    ensures { (N : List ℕ) (rs qs : List Rec) → mid ≡ base + length rs → Filled N nodes.old base end (rs ++ qs) → Filled N nodes.new base end (qs ++ rs) }
-{
-    if end as usize * WIDTH <= nodes.len() {
-        reverse(nodes, base, mid);
-        reverse(nodes, mid, end);
-        reverse(nodes, base, end);
-    }
-}
-
-// The records from `from` up to `to`, last first.
-fn reverse(nodes: &mut [u32], from: u32, to: u32)
-    requires { (from < 65536) × (to < 65536) × (to * WIDTH ≤ length nodes.old) }
-    ensures { (E : List ℕ) → Turned nodes.old (from * WIDTH) (to * WIDTH) E → nodes.new ≡ E }
-{
-    let mut a = from as usize * WIDTH;
-    let mut b = to as usize * WIDTH;
-    while a + WIDTH < b {
-        b -= WIDTH;
-        nodes.swap(a, b);
-        nodes.swap(a + 1, b + 1);
-        nodes.swap(a + 2, b + 2);
-        nodes.swap(a + 3, b + 3);
-        a += WIDTH;
     }
 }
 
@@ -1572,24 +1417,24 @@ fn unfit(kinds: &[u32], texts: &[u32]) -> usize
 }
 
 // A query, then the end of the list or one SEMI and the end.
-fn command(lists: &Lists, nodes: &mut [u32]) -> Step
-    requires { Ready 4 lists.now 0 0 }
-    ensures { Within 1 4 lists.now 0 0 result × Later (λ f. Lays 0 nodes.old nodes.new lists.now (λ K T. command_w K T f) result) }
+fn command(lists: &Lists, table: &mut Table) -> Step
+    requires { (table.old.made ≡ 0) × Ready 4 lists.now 0 0 }
+    ensures { Within 1 4 lists.now 0 table.old.made table.new.made result × Later (λ f. Lays table.old table.new lists.now (λ K T. command_w K T f) result) }
 {
-    let q = query(lists, nodes, 0, 0, Ask::outermost());
+    let q = query(lists, table, 0, Ask::outermost());
     let Step::Got(_, _, c) = q else {
         return q;
     };
-    let kind = peek(lists, c.at);
+    let kind = peek(lists, c);
     if kind == 0 {
         return q;
     }
     if kind != SEMI {
-        return wrong(kind, c.at);
+        return wrong(kind, c);
     }
-    let next = peek(lists, c.at + 1);
+    let next = peek(lists, c + 1);
     if next != 0 {
-        return wrong(next, c.at + 1);
+        return wrong(next, c + 1);
     }
     q
 }
@@ -1609,21 +1454,27 @@ fn start<'a>(
         texts,
         strengths,
     };
-    let first = command(&lists, &mut nodes[..0]);
+    let mut none: [u32; 0] = [];
+    let mut counted = Table {
+        nodes: &mut none,
+        made: 0,
+    };
+    let first = command(&lists, &mut counted);
     match first {
         Step::Refused(why, at) => Err(Refusal {
             why,
             place: at as usize,
         }),
-        Step::Got(_, _, c) => {
-            let need = c.made as usize;
+        Step::Got(..) => {
+            let need = counted.made as usize;
             if need * WIDTH > nodes.len() {
                 return Err(Refusal {
                     why: Reason::TableShort,
                     place: need,
                 });
             }
-            command(&lists, nodes);
+            let mut table = Table { nodes, made: 0 };
+            command(&lists, &mut table);
             Ok(need)
         }
     }

@@ -1,9 +1,9 @@
 -- The reader's functions that call each other, one cycle: each promises its bounds and its walk (specs/Laying.antt), made from its callees'
--- by the laws of proofs/Laying.antt. Function by function; a goal that has no answer here the check proves by itself. Assumes nothing.
+-- by the laws of proofs/Laying.antt. Function by function; a goal that has no answer here the check proves by itself. Assumes none_came.
 use Rattle.reader.proofs.Steps.{further, refused, ended, got_in, passed_on, opened, opens_refused, one_on, same_answer, null_before, seen_as, opens_in}
 use native.Mathlib.Omega.{arith}
 use Prim.Native.Nat.{◌+◌, ◌<◌, ◌≤◌}
-use Rattle.reader.proofs.Laying.{took, left, misfit, next, at_once, is, isn't, goes, halts, topped, by_kind, laid, capped, halted, said, queries_of_lem, by_walk, two_ways, ◌also◌, behind, loop_start, for_any, laid_joined, so, strength_of, differs, filled_as, no_left, no_right, closed, at_second, laid_as}
+use Rattle.reader.proofs.Laying.{none_came, took, left, misfit, next, at_once, is, isn't, goes, halts, topped, by_kind, laid, capped, halted, said, queries_of_lem, by_walk, two_ways, ◌also◌, behind, loop_start, for_any, laid_joined, so, strength_of, differs, fills_as, no_left, no_right, closed, at_second, laid_as}
 use Rattle.descent.proofs.Walk.{expr_w, leaf_w, operand_w, deeper, dotted_w, not_b}
 use Rattle.reader.specs.Laying.{one, is_bare, absences, Laid, Later, begins_join, literal_text}
 use Rattle.reader.proofs.KindTests.{between_in, between_out, bare_either, bare_neither, distinct_walk, deep_walk, indexed_heads_none, heads_call_lem, Sign, sign_is, no_sign, ops_walk, ops_goes, no_parts, select_walk, prefix_walk, no_tail}
@@ -15,8 +15,8 @@ use Rattle.reader.specs.Bounds.{kinds_of, texts_of, Within, Seen, got_of}
 use Rattle.theory.proofs.Cases.{le-leb, eqb-true, both_i}
 use borrow.Author.Tests.{lt-leb, ne_eqb, lt-ltb, le-ltb}
 use Rattle.kinds.specs.Kinds.{STAR}
-use Rattle.descent.proofs.Filling.{◌then◌, nothing}
-use mathlib.Core.List.{◌++◌, []}
+use Rattle.reader.proofs.Laying.{◌then◌}
+use mathlib.Core.List.{◌++◌}
 use lib.ListN.{length, get_or}
 use Rattle.grammar.specs.Reading.{choose}
 use Rattle.kinds.specs.Classes.{literal_code, heads_call}
@@ -30,154 +30,70 @@ use Rattle.reader.proofs.+walk.Goals as goal
 use Rattle.reader.proofs.+walk.Goals.{call-else-kind-eq-DISTINCT, call-then-kind-eq-DISTINCT, ex-in-1-to-11, ex-in_default, ex-in_default-via-else-kind-lt1+else-kind-lt12, ex-in_default-via-then-kind-lt1, leaf-else-next-eq-LP, leaf-then-next-eq-LP+else-kind-ne-INDEXED, op-else-kind-eq-NOT, op-else-kind-eq-NOT-2, op-else-peek-eq-NOT, op-then-kind-eq-NOT, op-then-kind-eq-NOT-2, op-then-peek-eq-NOT, operand-in-27-1, operand-in_default+else-kind-lt18+then-kind-lt20, ops-else-k-eq0+else-k-s+then-left-k, ops-else-k-eq0+then-k-s, ops-then-k-eq0, row-else-width-gt0, row-then-width-gt0+else-n-width, select-else-detail-gt0, select-in-54, select-in-55, select-in_default, select-then-detail-gt0, sign-else-kind-eq-NOT, sign-then-kind-eq-NOT+else-strength-gt-NOT_STANDS}
 
 -- ── after ──
-pub after-wrong-requires : goal.after-wrong-requires
-after-wrong-requires t c = omega arith
-
 pub after-returns-then-kind-word : goal.after-returns-then-kind-word
 unfolding expr_w
 after-returns-then-kind-word t c = (refused c.wrong.ensures.0 (omega arith), λ s. record { does = λ a p. at_once (λ f. left _ _ _ (isn't c.peek-kind.ensures c.if-kind-word.true) (misfit c.peek-kind.ensures c.wrong.ensures.1)) })
-
-pub after-overflow_add-at : goal.after-overflow_add-at
-after-overflow_add-at t c = omega arith
-
-pub after-expr-requires : goal.after-expr-requires
-after-expr-requires t c = omega arith
 
 pub after-returns : goal.after-returns
 unfolding expr_w
 after-returns t c = (further c.expr.ensures.0 (omega arith), λ s. record { does = λ a p. next ((c.expr.ensures.1 s).does a p) (λ f h. took _ _ _ (is c.peek-kind.ensures c.if-kind-word.false) (h)) })
 
 -- ── among ──
-pub among-wrong-requires : goal.among-wrong-requires
-among-wrong-requires t c = omega arith
-
 pub among-returns-then-lp-ne-LP : goal.among-returns-then-lp-ne-LP
 unfolding expr_w both
 among-returns-then-lp-ne-LP t c = (refused c.wrong.ensures.0 (omega arith), λ s pre b. record { does = λ a p. at_once (λ f. left _ _ _ (isn't c.peek-lp.ensures c.if-lp-ne-LP.true) (misfit c.peek-lp.ensures c.wrong.ensures.1)) })
-
-pub among-overflow_add-at : goal.among-overflow_add-at
-among-overflow_add-at t c = omega arith
-
-pub among-emit-m-requires : goal.among-emit-m-requires
-among-emit-m-requires t c = omega arith
-
-pub among-overflow_add-at-in-13 : goal.among-overflow_add-at-in-13
-among-overflow_add-at-in-13 t c = omega (arith, c.requires, c.emit-m.ensures.0, c.peek-kind.ensures, c.if-lp-ne-LP.false, c.peek-lp.ensures)
-
-pub among-ended-requires : goal.among-ended-requires
-among-ended-requires t c = omega (arith, c.requires, c.emit-m.ensures.0, c.peek-kind.ensures, c.if-lp-ne-LP.false, c.peek-lp.ensures)
-
-pub among-overflow_add-at-in-52 : goal.among-overflow_add-at-in-52
-among-overflow_add-at-in-52 t c = omega arith
-
-pub among-query-q-requires : goal.among-query-q-requires
-among-query-q-requires t c = omega (arith, c.requires, c.in-52.if-kind-lt54-own.true, c.in-52.if-kind-lt52-own.false, c.peek-kind.ensures, c.if-lp-ne-LP.false, c.peek-lp.ensures)
 
 pub among-returns-in_default-q : goal.among-returns-in_default-q
 unfolding expr_w both
 among-returns-in_default-q t c = (passed_on c.query-q.ensures.0 c.in_default-q.is, λ s pre b. record { does = λ a p. next (c.query-q.ensures.1.does a (c.with.ensures.2.packs a s p)) (λ f h. took _ _ _ (is c.peek-lp.ensures c.if-lp-ne-LP.false) (took _ _ _ (by_kind (λ z. both (leb 52 z) (leb z 53)) c.peek-kind.ensures (between_in 52 53 c.peek-kind.result (omega (arith, c.in-52.if-kind-lt52-own.false)) (omega (arith, c.in-52.if-kind-lt54-own.true)))) (halts _ _ h c.in_default-q.is))) })
 
-pub among-ended-requires-in-52 : goal.among-ended-requires-in-52
-among-ended-requires-in-52 t c = omega (arith, got_in c.query-q.ensures.0 c.in-Got.is, c.requires, c.in-52.if-kind-lt54-own.true, c.in-52.if-kind-lt52-own.false, c.peek-kind.ensures, c.if-lp-ne-LP.false, c.peek-lp.ensures)
-
-pub among-overflow_add-at-in_default : goal.among-overflow_add-at-in_default
-among-overflow_add-at-in_default t c = omega arith
-
-pub among-list-l-requires : goal.among-list-l-requires
-among-list-l-requires t c = omega arith
-
 pub among-returns-in_default-l : goal.among-returns-in_default-l
 unfolding expr_w both
 among-returns-in_default-l t c = (passed_on c.list-l.ensures.0 c.in_default-l.is, λ s pre b. record { does = λ a p. next (c.list-l.ensures.1.does a (c.with-in_default.ensures.2.packs a s p)) (λ f h. took _ _ _ (is c.peek-lp.ensures c.if-lp-ne-LP.false) (left _ _ _ (by_kind (λ z. both (leb 52 z) (leb z 53)) c.peek-kind.ensures (between_out 52 53 c.peek-kind.result (λ z. omega (arith, z)))) (left _ _ _ (isn't c.peek-kind.ensures c.in_default-1.rest.1) (halts _ _ h c.in_default-l.is)))) })
 
-pub among-overflow_cast-n_d : goal.among-overflow_cast-n_d
-among-overflow_cast-n_d t c = omega (arith, got_in c.list-l.ensures.0 c.in-Got-l.is, c.requires, c.peek-kind.ensures, c.if-lp-ne-LP.false, c.peek-lp.ensures)
-
-pub among-overflow_sub-d : goal.among-overflow_sub-d
-among-overflow_sub-d t c = omega (arith, got_in c.list-l.ensures.0 c.in-Got-l.is, c.requires, c.peek-kind.ensures, c.if-lp-ne-LP.false, c.peek-lp.ensures)
-
-pub among-overflow_add-d : goal.among-overflow_add-d
-among-overflow_add-d t c = omega (arith, got_in c.list-l.ensures.0 c.in-Got-l.is, c.requires, c.peek-kind.ensures, c.if-lp-ne-LP.false, c.peek-lp.ensures)
-
-pub among-emit-m-requires-in_default : goal.among-emit-m-requires-in_default
-among-emit-m-requires-in_default t c = omega (arith, got_in c.list-l.ensures.0 c.in-Got-l.is, c.requires, c.peek-kind.ensures, c.if-lp-ne-LP.false, c.peek-lp.ensures)
-
-pub among-ended-requires-in_default : goal.among-ended-requires-in_default
-among-ended-requires-in_default t c = omega (arith, got_in c.list-l.ensures.0 c.in-Got-l.is, c.requires, c.emit-m-in_default.ensures.0, c.peek-kind.ensures, c.if-lp-ne-LP.false, c.peek-lp.ensures)
-
 pub among-returns-in-13 : goal.among-returns-in-13
 unfolding expr_w both
-among-returns-in-13 t c = (further c.ended.ensures.0 (omega (arith, c.requires, c.emit-m.ensures.0, c.peek-kind.ensures, c.if-lp-ne-LP.false, c.peek-lp.ensures)), λ s pre b. record { does = λ a p. at_once (λ f. took _ _ _ (is c.peek-lp.ensures c.if-lp-ne-LP.false) (left _ _ _ (by_kind (λ z. both (leb 52 z) (leb z 53)) c.peek-kind.ensures (ap (λ z. both (leb 52 z) (leb z 53)) c.in-13.is)) (took _ _ _ (is c.peek-kind.ensures c.in-13.is) (c.ended.ensures.1 pre _ _ _ b c.emit-m.ensures.1)))) })
+among-returns-in-13 t c = (further c.ended.ensures.0 (omega (arith, c.requires, c.emit.ensures.0, c.peek-kind.ensures, c.if-lp-ne-LP.false, c.peek-lp.ensures)), λ s pre b. record { does = λ a p. at_once (λ f. took _ _ _ (is c.peek-lp.ensures c.if-lp-ne-LP.false) (left _ _ _ (by_kind (λ z. both (leb 52 z) (leb z 53)) c.peek-kind.ensures (ap (λ z. both (leb 52 z) (leb z 53)) c.in-13.is)) (took _ _ _ (is c.peek-kind.ensures c.in-13.is) (c.ended.ensures.1 pre _ _ b c.emit.ensures.1)))) })
 
 pub among-returns-in-Got : goal.among-returns-in-Got
 unfolding expr_w both
-among-returns-in-Got t c = (further c.ended-in-52.ensures.0 (omega (arith, got_in c.query-q.ensures.0 c.in-Got.is, c.requires, c.in-52.if-kind-lt54-own.true, c.in-52.if-kind-lt52-own.false, c.peek-kind.ensures, c.if-lp-ne-LP.false, c.peek-lp.ensures)), λ s pre b. record { does = λ a p. next (c.query-q.ensures.1.does a (c.with.ensures.2.packs a s p)) (λ f h. took _ _ _ (is c.peek-lp.ensures c.if-lp-ne-LP.false) (took _ _ _ (by_kind (λ z. both (leb 52 z) (leb z 53)) c.peek-kind.ensures (between_in 52 53 c.peek-kind.result (omega (arith, c.in-52.if-kind-lt52-own.false)) (omega (arith, c.in-52.if-kind-lt54-own.true)))) (goes _ _ h c.in-Got.is (λ rs F. c.ended-in-52.ensures.1 pre _ _ rs b F)))) })
+among-returns-in-Got t c = (further c.ended-in-52.ensures.0 (omega (arith, got_in c.query-q.ensures.0 c.in-Got.is, c.requires, c.in-52.if-kind-lt54-own.true, c.in-52.if-kind-lt52-own.false, c.peek-kind.ensures, c.if-lp-ne-LP.false, c.peek-lp.ensures)), λ s pre b. record { does = λ a p. next (c.query-q.ensures.1.does a (c.with.ensures.2.packs a s p)) (λ f h. took _ _ _ (is c.peek-lp.ensures c.if-lp-ne-LP.false) (took _ _ _ (by_kind (λ z. both (leb 52 z) (leb z 53)) c.peek-kind.ensures (between_in 52 53 c.peek-kind.result (omega (arith, c.in-52.if-kind-lt52-own.false)) (omega (arith, c.in-52.if-kind-lt54-own.true)))) (goes _ _ h c.in-Got.is (λ rs F. c.ended-in-52.ensures.1 pre _ rs b F)))) })
 
 pub among-returns-in-Got-l : goal.among-returns-in-Got-l
 unfolding expr_w both
-among-returns-in-Got-l t c = (further c.ended-in_default.ensures.0 (omega (arith, got_in c.list-l.ensures.0 c.in-Got-l.is, c.requires, c.emit-m-in_default.ensures.0, c.peek-kind.ensures, c.if-lp-ne-LP.false, c.peek-lp.ensures)), λ s pre b. record { does = λ a p. next (c.list-l.ensures.1.does a (c.with-in_default.ensures.2.packs a s p)) (λ f h. took _ _ _ (is c.peek-lp.ensures c.if-lp-ne-LP.false) (left _ _ _ (by_kind (λ z. both (leb 52 z) (leb z 53)) c.peek-kind.ensures (between_out 52 53 c.peek-kind.result (λ z. omega (arith, z)))) (left _ _ _ (isn't c.peek-kind.ensures c.in_default-1.rest.1) (goes _ _ h c.in-Got-l.is (λ rs F. c.ended-in_default.ensures.1 pre _ _ _ b (topped F c.emit-m-in_default.ensures.1)))))) })
+among-returns-in-Got-l t c = (further c.ended-in_default.ensures.0 (omega (arith, got_in c.list-l.ensures.0 c.in-Got-l.is, c.requires, c.emit-in_default.ensures.0, c.peek-kind.ensures, c.if-lp-ne-LP.false, c.peek-lp.ensures)), λ s pre b. record { does = λ a p. next (c.list-l.ensures.1.does a (c.with-in_default.ensures.2.packs a s p)) (λ f h. took _ _ _ (is c.peek-lp.ensures c.if-lp-ne-LP.false) (left _ _ _ (by_kind (λ z. both (leb 52 z) (leb z 53)) c.peek-kind.ensures (between_out 52 53 c.peek-kind.result (λ z. omega (arith, z)))) (left _ _ _ (isn't c.peek-kind.ensures c.in_default-1.rest.1) (goes _ _ h c.in-Got-l.is (λ rs F. c.ended-in_default.ensures.1 pre _ _ b (topped F c.emit-in_default.ensures.1)))))) })
 
 -- ── binary ──
-pub binary-expr-r-requires : goal.binary-expr-r-requires
-binary-expr-r-requires t c = omega arith
-
 pub binary-returns-in_default : goal.binary-returns-in_default
 unfolding expr_w
 binary-returns-in_default t c = (passed_on c.expr-r.ensures.0 c.in_default.is, λ s pre b. record { does = λ a p. next ((c.expr-r.ensures.1 s).does a p) (λ f h. halts _ _ h c.in_default.is) })
 
-pub binary-overflow_sub-d : goal.binary-overflow_sub-d
-binary-overflow_sub-d t c = omega (arith, got_in c.expr-r.ensures.0 c.in-Got.is, c.requires)
-
-pub binary-overflow_add-d : goal.binary-overflow_add-d
-binary-overflow_add-d t c = omega (arith, got_in c.expr-r.ensures.0 c.in-Got.is, c.requires)
-
-pub binary-emit-m-requires : goal.binary-emit-m-requires
-binary-emit-m-requires t c = omega (arith, got_in c.expr-r.ensures.0 c.in-Got.is, c.requires)
-
 pub binary-returns : goal.binary-returns
 unfolding expr_w
-binary-returns t c = (ended c.got.ensures (omega (arith, got_in c.expr-r.ensures.0 c.in-Got.is, c.requires, c.emit-m.ensures.0)), λ s pre b. record { does = λ a p. next ((c.expr-r.ensures.1 s).does a p) (λ f h. goes _ _ h c.in-Got.is (λ rs F. laid c.got.ensures refl (capped _ pre b F c.emit-m.ensures.1))) })
+binary-returns t c = (ended c.got.ensures (omega (arith, got_in c.expr-r.ensures.0 c.in-Got.is, c.requires, c.emit.ensures.0)), λ s pre b. record { does = λ a p. next ((c.expr-r.ensures.1 s).does a p) (λ f h. goes _ _ h c.in-Got.is (λ rs F. laid c.got.ensures refl (capped _ pre b F c.emit.ensures.1))) })
 
 -- ── body ──
-pub body-overflow_cast-result : goal.body-overflow_cast-result
-body-overflow_cast-result t c = omega arith
-
 pub body-returns-then-queries-ge-QUERIES : goal.body-returns-then-queries-ge-QUERIES
 unfolding expr_w
 body-returns-then-queries-ge-QUERIES t c = (record { holds = omega arith }, record { holds = tt }, record { does = λ a p. at_once (λ f. took _ _ _ (is c.peek-kind.ensures c.if-kind-eq-SELECT.true) (took _ _ _ (le-leb 16 a.opened (omega (arith, queries_of_lem p, c.queries.ensures, c.if-queries-ge-QUERIES.true))) (halted refl refl))) })
-
-pub body-overflow_add-at : goal.body-overflow_add-at
-body-overflow_add-at t c = omega arith
 
 pub body-returns-then-kind-eq-SELECT : goal.body-returns-then-kind-eq-SELECT
 unfolding expr_w
 body-returns-then-kind-eq-SELECT t c = (further c.select.ensures.0 (omega (arith)), opened (omega arith), record { does = λ a p. next (c.select.ensures.1.does _ (c.opened.ensures.opens _ p (omega (arith, queries_of_lem p, c.queries.ensures, c.if-queries-ge-QUERIES.false)))) (λ f h. took _ _ _ (is c.peek-kind.ensures c.if-kind-eq-SELECT.true) (left _ _ _ (lt-leb 16 a.opened (omega (arith, queries_of_lem p, c.queries.ensures, c.if-queries-ge-QUERIES.false))) h)) })
 
-pub body-overflow_cast-result-then-queries-ge-QUERIES-2 : goal.body-overflow_cast-result-then-queries-ge-QUERIES-2
-body-overflow_cast-result-then-queries-ge-QUERIES-2 t c = omega arith
-
 pub body-returns-then-queries-ge-QUERIES-2 : goal.body-returns-then-queries-ge-QUERIES-2
 unfolding expr_w
 body-returns-then-queries-ge-QUERIES-2 t c = (record { holds = omega arith }, record { holds = tt }, record { does = λ a p. at_once (λ f. left _ _ _ (isn't c.peek-kind.ensures c.if-kind-eq-SELECT.false) (took _ _ _ (is c.peek-kind.ensures c.if-kind-eq-VALUES.true) (took _ _ _ (le-leb 16 a.opened (omega (arith, queries_of_lem p, c.queries-then-kind-eq-VALUES.ensures, c.if-queries-ge-QUERIES-2.true))) (halted refl refl)))) })
 
-pub body-overflow_add-at-then-kind-eq-VALUES : goal.body-overflow_add-at-then-kind-eq-VALUES
-body-overflow_add-at-then-kind-eq-VALUES t c = omega arith
-
 pub body-returns-then-kind-eq-VALUES : goal.body-returns-then-kind-eq-VALUES
 unfolding expr_w
 body-returns-then-kind-eq-VALUES t c = (further c.rows.ensures.0 (omega (arith)), opened (omega arith), record { does = λ a p. next (c.rows.ensures.1.does _ (c.opened-then-kind-eq-VALUES.ensures.opens _ p (omega (arith, queries_of_lem p, c.queries-then-kind-eq-VALUES.ensures, c.if-queries-ge-QUERIES-2.false)))) (λ f h. left _ _ _ (isn't c.peek-kind.ensures c.if-kind-eq-SELECT.false) (took _ _ _ (is c.peek-kind.ensures c.if-kind-eq-VALUES.true) (left _ _ _ (lt-leb 16 a.opened (omega (arith, queries_of_lem p, c.queries-then-kind-eq-VALUES.ensures, c.if-queries-ge-QUERIES-2.false))) h))) })
-
-pub body-wrong-requires : goal.body-wrong-requires
-body-wrong-requires t c = omega arith
 
 pub body-returns : goal.body-returns
 unfolding expr_w
 body-returns t c = (refused c.wrong.ensures.0 (omega arith), opens_refused c.wrong.ensures.0, record { does = λ a p. at_once (λ f. left _ _ _ (isn't c.peek-kind.ensures c.if-kind-eq-SELECT.false) (left _ _ _ (isn't c.peek-kind.ensures c.if-kind-eq-VALUES.false) (misfit c.peek-kind.ensures c.wrong.ensures.1))) })
 
 -- ── call ──
-pub call-bare-requires : goal.call-bare-requires
-call-bare-requires t c = omega arith
-
 pub call-returns-then-is_bare : goal.call-returns-then-is_bare
 unfolding expr_w
 call-returns-then-is_bare t c = (further c.bare.ensures.0 (omega arith), record { does = λ a p. at_once (λ f. by_walk (two_ways _ _ _ _ _ _ (ap (λ z. eqb z STAR) (sym c.peek-kind.ensures.is)) (bare_either _ (by_kind is_bare c.peek-kind.ensures (sym c.is_bare.ensures ∙ c.if-is_bare.true)))) c.bare.ensures.1) })
@@ -192,145 +108,70 @@ pub call-returns-in_default : goal.call-returns-in_default
 unfolding expr_w
 call-returns-in_default t c = (passed_on c.list-r.ensures.0 c.in_default.is, record { does = λ a p. next (c.list-r.ensures.1.does a p) (λ f h. left _ _ _ (bare_neither _ (by_kind is_bare c.peek-kind.ensures (sym c.is_bare.ensures ∙ c.if-is_bare.false))).0 (left _ _ _ (bare_neither _ (by_kind is_bare c.peek-kind.ensures (sym c.is_bare.ensures ∙ c.if-is_bare.false))).1 (by_walk (distinct_walk (kinds_of c.args.lists.now) (texts_of c.args.lists.now) f c.args.at c.if-kind-eq-DISTINCT.distinct a (elim c.if-kind-eq-DISTINCT.branch [ call-then-kind-eq-DISTINCT w ↦ inl (is c.peek-kind.ensures w.if-kind-eq-DISTINCT.true, w.distinct-is) | call-else-kind-eq-DISTINCT w ↦ inr (isn't c.peek-kind.ensures w.if-kind-eq-DISTINCT.false, w.distinct-is) ])) (halts _ _ h c.in_default.is)))) })
 
-pub call-overflow_cast-n_c : goal.call-overflow_cast-n_c
-call-overflow_cast-n_c t c = omega (arith, got_in c.list-r.ensures.0 c.in-Got.is, c.requires, c.peek-kind.ensures)
-
-pub call-called-requires : goal.call-called-requires
-call-called-requires t c = omega (arith, got_in c.list-r.ensures.0 c.in-Got.is, c.requires, c.peek-kind.ensures)
-
 pub call-returns : goal.call-returns
 unfolding expr_w
-call-returns t c = (further c.called.ensures.0 (omega (arith, got_in c.list-r.ensures.0 c.in-Got.is, c.requires, c.peek-kind.ensures)), record { does = λ a p. next (c.list-r.ensures.1.does a p) (λ f h. left _ _ _ (bare_neither _ (by_kind is_bare c.peek-kind.ensures (sym c.is_bare.ensures ∙ c.if-is_bare.false))).0 (left _ _ _ (bare_neither _ (by_kind is_bare c.peek-kind.ensures (sym c.is_bare.ensures ∙ c.if-is_bare.false))).1 (by_walk (distinct_walk (kinds_of c.args.lists.now) (texts_of c.args.lists.now) f c.args.at c.if-kind-eq-DISTINCT.distinct a (elim c.if-kind-eq-DISTINCT.branch [ call-then-kind-eq-DISTINCT w ↦ inl (is c.peek-kind.ensures w.if-kind-eq-DISTINCT.true, w.distinct-is) | call-else-kind-eq-DISTINCT w ↦ inr (isn't c.peek-kind.ensures w.if-kind-eq-DISTINCT.false, w.distinct-is) ])) (goes _ _ h c.in-Got.is (λ rs F. c.called.ensures.1 _ rs F))))) })
+call-returns t c = (further c.called.ensures.0 (omega (arith, got_in c.list-r.ensures.0 c.in-Got.is, c.requires, c.peek-kind.ensures)), record { does = λ a p. next (c.list-r.ensures.1.does a p) (λ f h. left _ _ _ (bare_neither _ (by_kind is_bare c.peek-kind.ensures (sym c.is_bare.ensures ∙ c.if-is_bare.false))).0 (left _ _ _ (bare_neither _ (by_kind is_bare c.peek-kind.ensures (sym c.is_bare.ensures ∙ c.if-is_bare.false))).1 (by_walk (distinct_walk (kinds_of c.args.lists.now) (texts_of c.args.lists.now) f c.args.at c.if-kind-eq-DISTINCT.distinct a (elim c.if-kind-eq-DISTINCT.branch [ call-then-kind-eq-DISTINCT w ↦ inl (is c.peek-kind.ensures w.if-kind-eq-DISTINCT.true, w.distinct-is) | call-else-kind-eq-DISTINCT w ↦ inr (isn't c.peek-kind.ensures w.if-kind-eq-DISTINCT.false, w.distinct-is) ])) (goes _ _ h c.in-Got.is (λ rs F. c.called.ensures.1 _ rs refl F))))) })
 
 -- ── case ──
-pub case-cased-b-requires : goal.case-cased-b-requires
-case-cased-b-requires t c = omega arith
-
 pub case-returns-in_default : goal.case-returns-in_default
 unfolding expr_w
 case-returns-in_default t c = (passed_on c.cased-b.ensures.0 c.in_default.is, record { does = λ a p. next (c.cased-b.ensures.1.does a p) (λ f h. halts _ _ h c.in_default.is) })
-
-pub case-when-w-requires : goal.case-when-w-requires
-case-when-w-requires t c = omega (arith, got_in c.cased-b.ensures.0 c.in-Got.is, c.requires)
 
 pub case-returns-in_default-w : goal.case-returns-in_default-w
 unfolding expr_w
 case-returns-in_default-w t c = (passed_on c.when-w.ensures.0 c.in_default-w.is, record { does = λ a p. next (c.cased-b.ensures.1.does a p also c.when-w.ensures.1.does a p) (λ f h. goes _ _ h.0 c.in-Got.is (λ rs F. halts _ _ h.1 c.in_default-w.is)) })
 
-pub case-clause-e-requires : goal.case-clause-e-requires
-case-clause-e-requires t c = omega (arith, got_in c.when-w.ensures.0 c.in-Got-w.is, got_in c.cased-b.ensures.0 c.in-Got.is, c.requires)
-
 pub case-returns-in_default-e : goal.case-returns-in_default-e
 unfolding expr_w
 case-returns-in_default-e t c = (passed_on c.clause-e.ensures.0 c.in_default-e.is, record { does = λ a p. next (c.cased-b.ensures.1.does a p also c.when-w.ensures.1.does a p also c.clause-e.ensures.1.does a p) (λ f h. goes _ _ h.0 c.in-Got.is (λ rs F. goes _ _ h.1.0 c.in-Got-w.is (λ qs G. halts _ _ h.1.1 c.in_default-e.is))) })
-
-pub case-wrong-requires : goal.case-wrong-requires
-case-wrong-requires t c = omega (arith, got_in c.clause-e.ensures.0 c.in-Got-e.is, got_in c.when-w.ensures.0 c.in-Got-w.is, got_in c.cased-b.ensures.0 c.in-Got.is, c.requires, c.if-end-ne-END.true, c.peek-end.ensures)
 
 pub case-returns-then-end-ne-END : goal.case-returns-then-end-ne-END
 unfolding expr_w
 case-returns-then-end-ne-END t c = (refused c.wrong.ensures.0 (omega (arith, got_in c.clause-e.ensures.0 c.in-Got-e.is, got_in c.when-w.ensures.0 c.in-Got-w.is, got_in c.cased-b.ensures.0 c.in-Got.is, c.requires, c.if-end-ne-END.true, c.peek-end.ensures)), record { does = λ a p. next (c.cased-b.ensures.1.does a p also c.when-w.ensures.1.does a p also c.clause-e.ensures.1.does a p) (λ f h. goes _ _ h.0 c.in-Got.is (λ rs F. goes _ _ h.1.0 c.in-Got-w.is (λ qs G. goes _ _ h.1.1 c.in-Got-e.is (λ ps H. left _ _ _ (isn't c.peek-end.ensures c.if-end-ne-END.true) (misfit c.peek-end.ensures c.wrong.ensures.1))))) })
 
-pub case-overflow_cast-n_d : goal.case-overflow_cast-n_d
-case-overflow_cast-n_d t c = omega (arith, got_in c.clause-e.ensures.0 c.in-Got-e.is, got_in c.when-w.ensures.0 c.in-Got-w.is, got_in c.cased-b.ensures.0 c.in-Got.is, c.requires, c.if-end-ne-END.false, c.peek-end.ensures)
-
-pub case-overflow_add-n_d : goal.case-overflow_add-n_d
-case-overflow_add-n_d t c = omega (arith, got_in c.clause-e.ensures.0 c.in-Got-e.is, got_in c.when-w.ensures.0 c.in-Got-w.is, got_in c.cased-b.ensures.0 c.in-Got.is, c.requires, c.if-end-ne-END.false, c.peek-end.ensures)
-
-pub case-overflow_sub-f : goal.case-overflow_sub-f
-case-overflow_sub-f t c = omega (arith, got_in c.clause-e.ensures.0 c.in-Got-e.is, got_in c.when-w.ensures.0 c.in-Got-w.is, got_in c.cased-b.ensures.0 c.in-Got.is, c.requires, c.if-end-ne-END.false, c.peek-end.ensures)
-
-pub case-overflow_add-f : goal.case-overflow_add-f
-case-overflow_add-f t c = omega (arith, got_in c.clause-e.ensures.0 c.in-Got-e.is, got_in c.when-w.ensures.0 c.in-Got-w.is, got_in c.cased-b.ensures.0 c.in-Got.is, c.requires, c.if-end-ne-END.false, c.peek-end.ensures)
-
-pub case-emit-m-requires : goal.case-emit-m-requires
-case-emit-m-requires t c = omega (arith, got_in c.clause-e.ensures.0 c.in-Got-e.is, got_in c.when-w.ensures.0 c.in-Got-w.is, got_in c.cased-b.ensures.0 c.in-Got.is, c.requires, c.if-end-ne-END.false, c.peek-end.ensures)
-
-pub case-overflow_add-f-2 : goal.case-overflow_add-f-2
-case-overflow_add-f-2 t c = omega (arith, got_in c.clause-e.ensures.0 c.in-Got-e.is, got_in c.when-w.ensures.0 c.in-Got-w.is, got_in c.cased-b.ensures.0 c.in-Got.is, c.requires, c.emit-m.ensures.0, c.if-end-ne-END.false, c.peek-end.ensures)
-
 pub case-returns : goal.case-returns
 unfolding expr_w
-case-returns t c = (ended c.got.ensures (omega (arith, got_in c.clause-e.ensures.0 c.in-Got-e.is, got_in c.when-w.ensures.0 c.in-Got-w.is, got_in c.cased-b.ensures.0 c.in-Got.is, c.requires, c.emit-m.ensures.0, c.if-end-ne-END.false, c.peek-end.ensures)), record { does = λ a p. next (c.cased-b.ensures.1.does a p also c.when-w.ensures.1.does a p also c.clause-e.ensures.1.does a p) (λ f h. goes _ _ h.0 c.in-Got.is (λ rs F. goes _ _ h.1.0 c.in-Got-w.is (λ qs G. goes _ _ h.1.1 c.in-Got-e.is (λ ps H. took _ _ _ (is c.peek-end.ensures c.if-end-ne-END.false) (laid c.got.ensures refl (topped (F then G then H) c.emit-m.ensures.1)))))) })
+case-returns t c = (ended c.got.ensures (omega (arith, got_in c.clause-e.ensures.0 c.in-Got-e.is, got_in c.when-w.ensures.0 c.in-Got-w.is, got_in c.cased-b.ensures.0 c.in-Got.is, c.requires, c.emit.ensures.0, c.if-end-ne-END.false, c.peek-end.ensures)), record { does = λ a p. next (c.cased-b.ensures.1.does a p also c.when-w.ensures.1.does a p also c.clause-e.ensures.1.does a p) (λ f h. goes _ _ h.0 c.in-Got.is (λ rs F. goes _ _ h.1.0 c.in-Got-w.is (λ qs G. goes _ _ h.1.1 c.in-Got-e.is (λ ps H. took _ _ _ (is c.peek-end.ensures c.if-end-ne-END.false) (laid c.got.ensures refl (topped (F then G then H) c.emit.ensures.1)))))) })
 
 -- ── cased ──
-pub cased-absent-m-requires : goal.cased-absent-m-requires
-cased-absent-m-requires t c = omega arith
-
 pub cased-returns-then-kind-eq-WHEN : goal.cased-returns-then-kind-eq-WHEN
 unfolding expr_w absences
-cased-returns-then-kind-eq-WHEN t c = (ended c.got.ensures (omega arith), record { does = λ a p. at_once (λ f. took _ _ _ (is c.peek-kind.ensures c.if-kind-eq-WHEN.true) (laid c.got.ensures refl c.absent-m.ensures.1)) })
-
-pub cased-expr-requires : goal.cased-expr-requires
-cased-expr-requires t c = omega arith
+cased-returns-then-kind-eq-WHEN t c = (ended c.got.ensures (omega arith), record { does = λ a p. at_once (λ f. took _ _ _ (is c.peek-kind.ensures c.if-kind-eq-WHEN.true) (laid c.got.ensures refl c.absent.ensures.1)) })
 
 pub cased-returns : goal.cased-returns
 unfolding expr_w absences
 cased-returns t c = (further c.expr.ensures.0 (omega arith), record { does = λ a p. next ((c.expr.ensures.1 1).does a p) (λ f h. left _ _ _ (isn't c.peek-kind.ensures c.if-kind-eq-WHEN.false) (h)) })
 
 -- ── cast ──
-pub cast-after-e-requires : goal.cast-after-e-requires
-cast-after-e-requires t c = omega arith
-
 pub cast-returns-in_default : goal.cast-returns-in_default
 unfolding expr_w
 cast-returns-in_default t c = (passed_on c.after-e.ensures.0 c.in_default.is, record { does = λ a p. next ((c.after-e.ensures.1 1).does a p) (λ f h. halts _ _ h c.in_default.is) })
-
-pub cast-wrong-requires : goal.cast-wrong-requires
-cast-wrong-requires t c = omega (arith, got_in c.after-e.ensures.0 c.in-Got.is, c.requires, c.if-kind-ne-AS.true, c.peek-kind.ensures)
 
 pub cast-returns-then-kind-ne-AS : goal.cast-returns-then-kind-ne-AS
 unfolding expr_w
 cast-returns-then-kind-ne-AS t c = (refused c.wrong.ensures.0 (omega (arith, got_in c.after-e.ensures.0 c.in-Got.is, c.requires, c.if-kind-ne-AS.true, c.peek-kind.ensures)), record { does = λ a p. next ((c.after-e.ensures.1 1).does a p) (λ f h. goes _ _ h c.in-Got.is (λ rs F. left _ _ _ (isn't c.peek-kind.ensures c.if-kind-ne-AS.true) (misfit c.peek-kind.ensures c.wrong.ensures.1))) })
 
-pub cast-overflow_add-c : goal.cast-overflow_add-c
-cast-overflow_add-c t c = omega (arith, got_in c.after-e.ensures.0 c.in-Got.is, c.requires, c.if-kind-ne-AS.false, c.peek-kind.ensures)
-
-pub cast-name-n-requires : goal.cast-name-n-requires
-cast-name-n-requires t c = omega (arith, got_in c.after-e.ensures.0 c.in-Got.is, c.requires, c.if-kind-ne-AS.false, c.peek-kind.ensures)
-
 pub cast-returns-in_default-n : goal.cast-returns-in_default-n
 unfolding expr_w
 cast-returns-in_default-n t c = (passed_on c.name-n.ensures.0 c.in_default-n.is, record { does = λ a p. next ((c.after-e.ensures.1 1).does a p) (λ f h. goes _ _ h c.in-Got.is (λ rs F. took _ _ _ (is c.peek-kind.ensures c.if-kind-ne-AS.false) (halts _ _ c.name-n.ensures.2 c.in_default-n.is))) })
 
-pub cast-close-requires : goal.cast-close-requires
-cast-close-requires t c = omega (arith, got_in c.name-n.ensures.0 c.in-Got-n.is, one_on c.name-n.ensures.1 c.in-Got-n.is, got_in c.after-e.ensures.0 c.in-Got.is, c.requires, c.if-kind-ne-AS.false, c.peek-kind.ensures)
-
 pub cast-returns : goal.cast-returns
 unfolding expr_w
-cast-returns t c = (further c.close.ensures.0 (omega (arith, got_in c.name-n.ensures.0 c.in-Got-n.is, one_on c.name-n.ensures.1 c.in-Got-n.is, got_in c.after-e.ensures.0 c.in-Got.is, c.requires, c.if-kind-ne-AS.false, c.peek-kind.ensures)), record { does = λ a p. next ((c.after-e.ensures.1 1).does a p) (λ f h. goes _ _ h c.in-Got.is (λ rs F. took _ _ _ (is c.peek-kind.ensures c.if-kind-ne-AS.false) (goes _ _ c.name-n.ensures.2 c.in-Got-n.is (λ qs G. behind _ _ (F then G) (c.close.ensures.1 (length (rs ++ qs)) (F then G).counted))))) })
+cast-returns t c = (further c.close.ensures.0 (omega (arith, got_in c.name-n.ensures.0 c.in-Got-n.is, one_on c.name-n.ensures.1 c.in-Got-n.is, got_in c.after-e.ensures.0 c.in-Got.is, c.requires, c.if-kind-ne-AS.false, c.peek-kind.ensures)), record { does = λ a p. next ((c.after-e.ensures.1 1).does a p) (λ f h. goes _ _ h c.in-Got.is (λ rs F. took _ _ _ (is c.peek-kind.ensures c.if-kind-ne-AS.false) (goes _ _ c.name-n.ensures.2 c.in-Got-n.is (λ qs G. behind _ _ (F then G) (c.close.ensures.1 (length (rs ++ qs)) (F then G).filled.counted))))) })
 
 -- ── clause ──
-pub clause-overflow_add-at : goal.clause-overflow_add-at
-clause-overflow_add-at t c = omega arith
-
-pub clause-expr-requires : goal.clause-expr-requires
-clause-expr-requires t c = omega arith
-
 pub clause-returns-then-kind-word : goal.clause-returns-then-kind-word
 unfolding expr_w absences
 clause-returns-then-kind-word t c = (further c.expr.ensures.0 (omega arith), record { does = λ a p. next ((c.expr.ensures.1 1).does a p) (λ f h. took _ _ _ (is c.peek-kind.ensures c.if-kind-word.true) (h)) })
 
-pub clause-absent-m-requires : goal.clause-absent-m-requires
-clause-absent-m-requires t c = omega arith
-
 pub clause-returns : goal.clause-returns
 unfolding expr_w absences
-clause-returns t c = (ended c.got.ensures (omega arith), record { does = λ a p. at_once (λ f. left _ _ _ (isn't c.peek-kind.ensures c.if-kind-word.false) (laid c.got.ensures refl c.absent-m.ensures.1)) })
+clause-returns t c = (ended c.got.ensures (omega arith), record { does = λ a p. at_once (λ f. left _ _ _ (isn't c.peek-kind.ensures c.if-kind-word.false) (laid c.got.ensures refl c.absent.ensures.1)) })
 
 -- ── col ──
-pub col-emit-m-requires : goal.col-emit-m-requires
-col-emit-m-requires t c = omega arith
-
-pub col-overflow_add-at : goal.col-overflow_add-at
-col-overflow_add-at t c = omega arith
-
 pub col-returns-then-kind-eq-STAR : goal.col-returns-then-kind-eq-STAR
 unfolding expr_w
-col-returns-then-kind-eq-STAR t c = (ended c.got.ensures (omega arith), record { does = λ a p. at_once (λ f. took _ _ _ (is c.peek-kind.ensures c.if-kind-eq-STAR.true) (laid c.got.ensures refl c.emit-m.ensures.1)) })
-
-pub col-expr-r-requires : goal.col-expr-r-requires
-col-expr-r-requires t c = omega arith
+col-returns-then-kind-eq-STAR t c = (ended c.got.ensures (omega arith), record { does = λ a p. at_once (λ f. took _ _ _ (is c.peek-kind.ensures c.if-kind-eq-STAR.true) (laid c.got.ensures refl c.emit.ensures.1)) })
 
 pub col-returns-in_default : goal.col-returns-in_default
 unfolding expr_w
@@ -340,358 +181,151 @@ pub col-returns-then-s_d-eq0 : goal.col-returns-then-s_d-eq0
 unfolding expr_w
 col-returns-then-s_d-eq0 t c = (record { holds = omega (arith, got_in c.expr-r.ensures.0 c.in-Got.is) }, record { does = λ a p. next ((c.expr-r.ensures.1 0).does a (c.with.ensures.2.packs a 1 p)) (λ f h. left _ _ _ (isn't c.peek-kind.ensures c.if-kind-eq-STAR.false) (goes _ _ h c.in-Got.is (λ rs F. took _ _ _ (eqb-true _ _ c.if-s_d-eq0.true) (laid refl refl F)))) })
 
-pub col-alias-a-requires : goal.col-alias-a-requires
-col-alias-a-requires t c = omega (arith, got_in c.expr-r.ensures.0 c.in-Got.is, c.requires, c.if-s_d-eq0.false, c.if-kind-eq-STAR.false, c.peek-kind.ensures)
-
 pub col-returns-in_default-a : goal.col-returns-in_default-a
 unfolding expr_w
 col-returns-in_default-a t c = (passed_on c.alias-a.ensures.0 c.in_default-a.is, record { does = λ a p. next ((c.expr-r.ensures.1 0).does a (c.with.ensures.2.packs a 1 p)) (λ f h. left _ _ _ (isn't c.peek-kind.ensures c.if-kind-eq-STAR.false) (goes _ _ h c.in-Got.is (λ rs F. left _ _ _ (ne_eqb _ _ c.if-s_d-eq0.false) (halts _ _ c.alias-a.ensures.1 c.in_default-a.is)))) })
 
-pub col-overflow_cast-s_e : goal.col-overflow_cast-s_e
-col-overflow_cast-s_e t c = omega (arith, got_in c.alias-a.ensures.0 c.in-Got-a.is, got_in c.expr-r.ensures.0 c.in-Got.is, c.requires, c.if-s_d-eq0.false, c.if-kind-eq-STAR.false, c.peek-kind.ensures)
-
-pub col-overflow_sub-e : goal.col-overflow_sub-e
-col-overflow_sub-e t c = omega (arith, got_in c.alias-a.ensures.0 c.in-Got-a.is, got_in c.expr-r.ensures.0 c.in-Got.is, c.requires, c.if-s_d-eq0.false, c.if-kind-eq-STAR.false, c.peek-kind.ensures)
-
-pub col-overflow_add-e : goal.col-overflow_add-e
-col-overflow_add-e t c = omega (arith, got_in c.alias-a.ensures.0 c.in-Got-a.is, got_in c.expr-r.ensures.0 c.in-Got.is, c.requires, c.if-s_d-eq0.false, c.if-kind-eq-STAR.false, c.peek-kind.ensures)
-
-pub col-emit-m-requires-2 : goal.col-emit-m-requires-2
-col-emit-m-requires-2 t c = omega (arith, got_in c.alias-a.ensures.0 c.in-Got-a.is, got_in c.expr-r.ensures.0 c.in-Got.is, c.requires, c.if-s_d-eq0.false, c.if-kind-eq-STAR.false, c.peek-kind.ensures)
-
 pub col-returns : goal.col-returns
 unfolding expr_w
-col-returns t c = (ended c.got-2.ensures (omega (arith, got_in c.alias-a.ensures.0 c.in-Got-a.is, got_in c.expr-r.ensures.0 c.in-Got.is, c.requires, c.emit-m-2.ensures.0, c.if-s_d-eq0.false, c.if-kind-eq-STAR.false, c.peek-kind.ensures)), record { does = λ a p. next ((c.expr-r.ensures.1 0).does a (c.with.ensures.2.packs a 1 p)) (λ f h. left _ _ _ (isn't c.peek-kind.ensures c.if-kind-eq-STAR.false) (goes _ _ h c.in-Got.is (λ rs F. left _ _ _ (ne_eqb _ _ c.if-s_d-eq0.false) (goes _ _ c.alias-a.ensures.1 c.in-Got-a.is (λ qs G. laid c.got-2.ensures refl (topped (F then G) c.emit-m-2.ensures.1)))))) })
+col-returns t c = (ended c.got-2.ensures (omega (arith, got_in c.alias-a.ensures.0 c.in-Got-a.is, got_in c.expr-r.ensures.0 c.in-Got.is, c.requires, c.emit-2.ensures.0, c.if-s_d-eq0.false, c.if-kind-eq-STAR.false, c.peek-kind.ensures)), record { does = λ a p. next ((c.expr-r.ensures.1 0).does a (c.with.ensures.2.packs a 1 p)) (λ f h. left _ _ _ (isn't c.peek-kind.ensures c.if-kind-eq-STAR.false) (goes _ _ h c.in-Got.is (λ rs F. left _ _ _ (ne_eqb _ _ c.if-s_d-eq0.false) (goes _ _ c.alias-a.ensures.1 c.in-Got-a.is (λ qs G. laid c.got-2.ensures refl (topped (F then G) c.emit-2.ensures.1)))))) })
 
 -- ── cols ──
 pub cols-loop-d-init : goal.cols-loop-d-init
 unfolding expr_w
 cols-loop-d-init t c = (omega arith, λ a p. loop_start)
 
-pub cols-col-r-requires : goal.cols-col-r-requires
-cols-col-r-requires t c = omega arith
-
 pub cols-returns-in_default : goal.cols-returns-in_default
 unfolding expr_w
 cols-returns-in_default t c = (passed_on c.col-r.ensures.0 c.in_default.is, record { does = λ a p. (c.loop-d.invariant.1 a p).on _ _ (next (c.col-r.ensures.1.does a p) (λ f h. halts _ _ h c.in_default.is)) })
 
-pub cols-overflow_add-n : goal.cols-overflow_add-n
-cols-overflow_add-n t c = omega (arith, got_in c.col-r.ensures.0 c.in-Got.is, c.requires, c.loop-d.invariant)
-
-pub cols-overflow_add-at : goal.cols-overflow_add-at
-cols-overflow_add-at t c = omega (arith, got_in c.col-r.ensures.0 c.in-Got.is, c.requires, c.if-kind-ne-COMMA.false, c.peek-kind.ensures, c.loop-d.invariant)
-
-pub cols-loop-d-smaller : goal.cols-loop-d-smaller
-cols-loop-d-smaller t c = omega (arith, got_in c.col-r.ensures.0 c.in-Got.is, c.requires, c.if-kind-ne-COMMA.false, c.peek-kind.ensures, c.loop-d.invariant)
-
 pub cols-loop-d-preserved : goal.cols-loop-d-preserved
 unfolding expr_w
 cols-loop-d-preserved t c = (omega (arith, got_in c.col-r.ensures.0 c.in-Got.is, c.requires, c.if-kind-ne-COMMA.false, c.peek-kind.ensures, c.loop-d.invariant), λ a p. record { on = λ r N' l. (c.loop-d.invariant.1 a p).on r N' (next (c.col-r.ensures.1.does a p also l) (λ f h. goes _ _ h.0 c.in-Got.is (λ rs F. took _ _ _ (is c.peek-kind.ensures c.if-kind-ne-COMMA.false) (behind _ _ F h.1)))) })
-
-pub cols-counted-requires : goal.cols-counted-requires
-cols-counted-requires t c = omega (arith, got_in c.col-r.ensures.0 c.in-Got.is, c.requires, c.if-kind-ne-COMMA.true, c.peek-kind.ensures, c.loop-d.invariant)
 
 pub cols-returns : goal.cols-returns
 unfolding expr_w
 cols-returns t c = (ended c.counted.ensures (omega (arith, got_in c.col-r.ensures.0 c.in-Got.is, c.requires, c.if-kind-ne-COMMA.true, c.peek-kind.ensures, c.loop-d.invariant)), record { does = λ a p. (c.loop-d.invariant.1 a p).on _ _ (next (c.col-r.ensures.1.does a p) (λ f h. goes _ _ h c.in-Got.is (λ rs F. left _ _ _ (isn't c.peek-kind.ensures c.if-kind-ne-COMMA.true) (laid c.counted.ensures refl (F))))) })
 
 -- ── ex ──
-pub ex-too_deep-requires : goal.ex-too_deep-requires
-ex-too_deep-requires t c = omega arith
-
 pub ex-returns-then-level-gt-LEVELS : goal.ex-returns-then-level-gt-LEVELS
 unfolding expr_w
 ex-returns-then-level-gt-LEVELS t c = (refused c.too_deep.ensures.0 (omega arith), λ s. record { does = λ a p. at_once (λ f. took _ _ _ (lt-ltb 64 a.level (omega (arith, p.sum, p.weak, p.few, c.if-level-gt-LEVELS.true))) (deep_walk c.args.ask s c.peek-kind.ensures (strength_of p) c.too_deep.ensures.1)) })
 
-pub ex-leaf-first-requires : goal.ex-leaf-first-requires
-ex-leaf-first-requires t c = omega arith
-
-pub ex-operand-first-requires : goal.ex-operand-first-requires
-ex-operand-first-requires t c = omega arith
-
 pub ex-returns-in_default-first : goal.ex-returns-in_default-first
 unfolding expr_w
-ex-returns-in_default-first t c = (let f : Within 1 0 c.args.lists.now c.args.at c.args.made c.if-kind-lt1.first = elim c.if-kind-lt1.branch [ ex-in-1-to-11 w ↦ same_answer w.first-is w.leaf-first.ensures.0 | ex-in_default w ↦ same_answer w.first-is w.operand-first.ensures.0 ] in passed_on f c.in_default-first.is, λ s. record { does = λ a p. let g : Later (λ f. Laid c.args.made c.args.nodes.now c.if-kind-lt1.nodes (choose (both (leb 1 (get_or (kinds_of c.args.lists.now) c.args.at 0)) (leb (get_or (kinds_of c.args.lists.now) c.args.at 0) 11)) (leaf_w (kinds_of c.args.lists.now) (texts_of c.args.lists.now) f c.args.at a s) (operand_w (kinds_of c.args.lists.now) (texts_of c.args.lists.now) f c.args.at a s)) c.if-kind-lt1.first) = elim c.if-kind-lt1.branch [ ex-in-1-to-11 w ↦ so ((w.leaf-first.ensures.1 s).does a p) (λ f h. took _ _ _ (by_kind (λ z. both (leb 1 z) (leb z 11)) c.peek-kind.ensures (between_in 1 11 c.peek-kind.result (omega arith) (omega arith))) (laid_joined w.nodes-is w.first-is h)) | ex-in_default w ↦ so ((w.operand-first.ensures.1 s).does a p) (λ f h. left _ _ _ (by_kind (λ z. both (leb 1 z) (leb z 11)) c.peek-kind.ensures (elim w.in_default.branch [ ex-in_default-via-then-kind-lt1 v ↦ between_out 1 11 c.peek-kind.result (λ z. omega (arith, z)) | ex-in_default-via-else-kind-lt1+else-kind-lt12 v ↦ between_out 1 11 c.peek-kind.result (λ z. omega (arith, z)) ])) (laid_joined w.nodes-is w.first-is h)) ] in next (g) (λ f h. left _ _ _ (le-ltb 64 a.level (omega (arith, p.sum, p.weak, p.few, c.if-level-gt-LEVELS.false))) (halts _ _ h c.in_default-first.is)) })
+ex-returns-in_default-first t c = (let f : Within 1 0 c.args.lists.now c.args.at c.args.table.now.made c.if-kind-lt1.table.made c.if-kind-lt1.first = elim c.if-kind-lt1.branch [ ex-in-1-to-11 w ↦ same_answer w.first-is (ap (λ z. z.made) w.table-is) w.leaf-first.ensures.0 | ex-in_default w ↦ same_answer w.first-is (ap (λ z. z.made) w.table-is) w.operand-first.ensures.0 ] in passed_on f c.in_default-first.is, λ s. record { does = λ a p. let g : Later (λ f. Laid c.args.table.now c.if-kind-lt1.table (choose (both (leb 1 (get_or (kinds_of c.args.lists.now) c.args.at 0)) (leb (get_or (kinds_of c.args.lists.now) c.args.at 0) 11)) (leaf_w (kinds_of c.args.lists.now) (texts_of c.args.lists.now) f c.args.at a s) (operand_w (kinds_of c.args.lists.now) (texts_of c.args.lists.now) f c.args.at a s)) c.if-kind-lt1.first) = elim c.if-kind-lt1.branch [ ex-in-1-to-11 w ↦ so ((w.leaf-first.ensures.1 s).does a p) (λ f h. took _ _ _ (by_kind (λ z. both (leb 1 z) (leb z 11)) c.peek-kind.ensures (between_in 1 11 c.peek-kind.result (omega arith) (omega arith))) (laid_joined w.table-is w.first-is h)) | ex-in_default w ↦ so ((w.operand-first.ensures.1 s).does a p) (λ f h. left _ _ _ (by_kind (λ z. both (leb 1 z) (leb z 11)) c.peek-kind.ensures (elim w.in_default.branch [ ex-in_default-via-then-kind-lt1 v ↦ between_out 1 11 c.peek-kind.result (λ z. omega (arith, z)) | ex-in_default-via-else-kind-lt1+else-kind-lt12 v ↦ between_out 1 11 c.peek-kind.result (λ z. omega (arith, z)) ])) (laid_joined w.table-is w.first-is h)) ] in next (g) (λ f h. left _ _ _ (le-ltb 64 a.level (omega (arith, p.sum, p.weak, p.few, c.if-level-gt-LEVELS.false))) (halts _ _ h c.in_default-first.is)) })
 
 pub ex-overflow_cast-s_d : goal.ex-overflow_cast-s_d
-ex-overflow_cast-s_d t c = let f : Within 1 0 c.args.lists.now c.args.at c.args.made c.if-kind-lt1.first = elim c.if-kind-lt1.branch [ ex-in-1-to-11 w ↦ same_answer w.first-is w.leaf-first.ensures.0 | ex-in_default w ↦ same_answer w.first-is w.operand-first.ensures.0 ] in omega (arith, got_in f c.in-Got.is)
+ex-overflow_cast-s_d t c = let f : Within 1 0 c.args.lists.now c.args.at c.args.table.now.made c.if-kind-lt1.table.made c.if-kind-lt1.first = elim c.if-kind-lt1.branch [ ex-in-1-to-11 w ↦ same_answer w.first-is (ap (λ z. z.made) w.table-is) w.leaf-first.ensures.0 | ex-in_default w ↦ same_answer w.first-is (ap (λ z. z.made) w.table-is) w.operand-first.ensures.0 ] in omega (arith, got_in f c.in-Got.is)
 
 pub ex-ops-requires : goal.ex-ops-requires
-ex-ops-requires t c = let f : Within 1 0 c.args.lists.now c.args.at c.args.made c.if-kind-lt1.first = elim c.if-kind-lt1.branch [ ex-in-1-to-11 w ↦ same_answer w.first-is w.leaf-first.ensures.0 | ex-in_default w ↦ same_answer w.first-is w.operand-first.ensures.0 ] in omega (arith, got_in f c.in-Got.is, c.requires)
+ex-ops-requires t c = let f : Within 1 0 c.args.lists.now c.args.at c.args.table.now.made c.if-kind-lt1.table.made c.if-kind-lt1.first = elim c.if-kind-lt1.branch [ ex-in-1-to-11 w ↦ same_answer w.first-is (ap (λ z. z.made) w.table-is) w.leaf-first.ensures.0 | ex-in_default w ↦ same_answer w.first-is (ap (λ z. z.made) w.table-is) w.operand-first.ensures.0 ] in omega (arith, got_in f c.in-Got.is, c.requires)
 
 pub ex-returns : goal.ex-returns
 unfolding expr_w
-ex-returns t c = let f : Within 1 0 c.args.lists.now c.args.at c.args.made c.if-kind-lt1.first = elim c.if-kind-lt1.branch [ ex-in-1-to-11 w ↦ same_answer w.first-is w.leaf-first.ensures.0 | ex-in_default w ↦ same_answer w.first-is w.operand-first.ensures.0 ] in (further c.ops.ensures.0 (omega (arith, got_in f c.in-Got.is, c.requires)), λ s. record { does = λ a p. let g : Later (λ f. Laid c.args.made c.args.nodes.now c.if-kind-lt1.nodes (choose (both (leb 1 (get_or (kinds_of c.args.lists.now) c.args.at 0)) (leb (get_or (kinds_of c.args.lists.now) c.args.at 0) 11)) (leaf_w (kinds_of c.args.lists.now) (texts_of c.args.lists.now) f c.args.at a s) (operand_w (kinds_of c.args.lists.now) (texts_of c.args.lists.now) f c.args.at a s)) c.if-kind-lt1.first) = elim c.if-kind-lt1.branch [ ex-in-1-to-11 w ↦ so ((w.leaf-first.ensures.1 s).does a p) (λ f h. took _ _ _ (by_kind (λ z. both (leb 1 z) (leb z 11)) c.peek-kind.ensures (between_in 1 11 c.peek-kind.result (omega arith) (omega arith))) (laid_joined w.nodes-is w.first-is h)) | ex-in_default w ↦ so ((w.operand-first.ensures.1 s).does a p) (λ f h. left _ _ _ (by_kind (λ z. both (leb 1 z) (leb z 11)) c.peek-kind.ensures (elim w.in_default.branch [ ex-in_default-via-then-kind-lt1 v ↦ between_out 1 11 c.peek-kind.result (λ z. omega (arith, z)) | ex-in_default-via-else-kind-lt1+else-kind-lt12 v ↦ between_out 1 11 c.peek-kind.result (λ z. omega (arith, z)) ])) (laid_joined w.nodes-is w.first-is h)) ] in next (g also for_any _ _ (λ pre e. (c.ops.ensures.1 s pre e).does a p) (got_in f c.in-Got.is).more) (λ f h. left _ _ _ (le-ltb 64 a.level (omega (arith, p.sum, p.weak, p.few, c.if-level-gt-LEVELS.false))) (goes _ _ h.0 c.in-Got.is (λ rs F. behind _ _ F (h.1 (length rs) F.counted)))) })
+ex-returns t c = let f : Within 1 0 c.args.lists.now c.args.at c.args.table.now.made c.if-kind-lt1.table.made c.if-kind-lt1.first = elim c.if-kind-lt1.branch [ ex-in-1-to-11 w ↦ same_answer w.first-is (ap (λ z. z.made) w.table-is) w.leaf-first.ensures.0 | ex-in_default w ↦ same_answer w.first-is (ap (λ z. z.made) w.table-is) w.operand-first.ensures.0 ] in (further c.ops.ensures.0 (omega (arith, got_in f c.in-Got.is, c.requires)), λ s. record { does = λ a p. let g : Later (λ f. Laid c.args.table.now c.if-kind-lt1.table (choose (both (leb 1 (get_or (kinds_of c.args.lists.now) c.args.at 0)) (leb (get_or (kinds_of c.args.lists.now) c.args.at 0) 11)) (leaf_w (kinds_of c.args.lists.now) (texts_of c.args.lists.now) f c.args.at a s) (operand_w (kinds_of c.args.lists.now) (texts_of c.args.lists.now) f c.args.at a s)) c.if-kind-lt1.first) = elim c.if-kind-lt1.branch [ ex-in-1-to-11 w ↦ so ((w.leaf-first.ensures.1 s).does a p) (λ f h. took _ _ _ (by_kind (λ z. both (leb 1 z) (leb z 11)) c.peek-kind.ensures (between_in 1 11 c.peek-kind.result (omega arith) (omega arith))) (laid_joined w.table-is w.first-is h)) | ex-in_default w ↦ so ((w.operand-first.ensures.1 s).does a p) (λ f h. left _ _ _ (by_kind (λ z. both (leb 1 z) (leb z 11)) c.peek-kind.ensures (elim w.in_default.branch [ ex-in_default-via-then-kind-lt1 v ↦ between_out 1 11 c.peek-kind.result (λ z. omega (arith, z)) | ex-in_default-via-else-kind-lt1+else-kind-lt12 v ↦ between_out 1 11 c.peek-kind.result (λ z. omega (arith, z)) ])) (laid_joined w.table-is w.first-is h)) ] in next (g also for_any _ _ (λ pre e. (c.ops.ensures.1 s pre e).does a p) (got_in f c.in-Got.is).more) (λ f h. left _ _ _ (le-ltb 64 a.level (omega (arith, p.sum, p.weak, p.few, c.if-level-gt-LEVELS.false))) (goes _ _ h.0 c.in-Got.is (λ rs F. behind _ _ F (h.1 (length rs) F.filled.counted)))) })
 
 -- ── exists ──
-pub exists-wrong-requires : goal.exists-wrong-requires
-exists-wrong-requires t c = omega arith
-
 pub exists-returns-then-kind-ne-LP : goal.exists-returns-then-kind-ne-LP
 unfolding expr_w
 exists-returns-then-kind-ne-LP t c = (refused c.wrong.ensures.0 (omega arith), record { does = λ a p. at_once (λ f. left _ _ _ (isn't c.peek-kind.ensures c.if-kind-ne-LP.true) (misfit c.peek-kind.ensures c.wrong.ensures.1)) })
-
-pub exists-overflow_add-at : goal.exists-overflow_add-at
-exists-overflow_add-at t c = omega arith
-
-pub exists-sub-requires : goal.exists-sub-requires
-exists-sub-requires t c = omega arith
 
 pub exists-returns : goal.exists-returns
 unfolding expr_w
 exists-returns t c = (further c.sub.ensures.0 (omega arith), record { does = λ a p. next (c.sub.ensures.1.does a p) (λ f h. took _ _ _ (is c.peek-kind.ensures c.if-kind-ne-LP.false) (h)) })
 
 -- ── expr ──
-pub expr-ex-requires : goal.expr-ex-requires
-expr-ex-requires t c = omega arith
-
 pub expr-returns : goal.expr-returns
 expr-returns t c = c.ex.ensures
 
 -- ── from ──
-pub from-absent-m-requires : goal.from-absent-m-requires
-from-absent-m-requires t c = omega arith
-
 pub from-returns-then-kind-ne-FROM : goal.from-returns-then-kind-ne-FROM
 unfolding expr_w absences
-from-returns-then-kind-ne-FROM t c = (ended c.got.ensures (omega arith), record { does = λ a p. at_once (λ f. left _ _ _ (isn't c.requires.1 c.if-kind-ne-FROM.true) (laid c.got.ensures refl c.absent-m.ensures.1)) })
-
-pub from-overflow_add-at : goal.from-overflow_add-at
-from-overflow_add-at t c = omega arith
-
-pub from-source-s-requires : goal.from-source-s-requires
-from-source-s-requires t c = omega arith
+from-returns-then-kind-ne-FROM t c = (ended c.got.ensures (omega arith), record { does = λ a p. at_once (λ f. left _ _ _ (isn't c.requires.1 c.if-kind-ne-FROM.true) (laid c.got.ensures refl c.absent.ensures.1)) })
 
 pub from-returns-in_default : goal.from-returns-in_default
 unfolding expr_w absences
 from-returns-in_default t c = (passed_on c.source-s.ensures.0 c.in_default.is, record { does = λ a p. next (c.source-s.ensures.1.does a p) (λ f h. took _ _ _ (is c.requires.1 c.if-kind-ne-FROM.false) (halts _ _ h c.in_default.is)) })
 
-pub from-joins-j-requires : goal.from-joins-j-requires
-from-joins-j-requires t c = omega (arith, got_in c.source-s.ensures.0 c.in-Got.is, c.requires, c.if-kind-ne-FROM.false)
-
 pub from-returns-in_default-j : goal.from-returns-in_default-j
 unfolding expr_w absences
 from-returns-in_default-j t c = (passed_on c.joins-j.ensures.0 c.in_default-j.is, record { does = λ a p. next (c.source-s.ensures.1.does a p also c.joins-j.ensures.1.does a p) (λ f h. took _ _ _ (is c.requires.1 c.if-kind-ne-FROM.false) (goes _ _ h.0 c.in-Got.is (λ rs F. halts _ _ h.1 c.in_default-j.is))) })
 
-pub from-overflow_cast-n_d : goal.from-overflow_cast-n_d
-from-overflow_cast-n_d t c = omega (arith, got_in c.joins-j.ensures.0 c.in-Got-j.is, got_in c.source-s.ensures.0 c.in-Got.is, c.requires, c.if-kind-ne-FROM.false)
-
-pub from-overflow_add-n_d : goal.from-overflow_add-n_d
-from-overflow_add-n_d t c = omega (arith, got_in c.joins-j.ensures.0 c.in-Got-j.is, got_in c.source-s.ensures.0 c.in-Got.is, c.requires, c.if-kind-ne-FROM.false)
-
-pub from-overflow_sub-d : goal.from-overflow_sub-d
-from-overflow_sub-d t c = omega (arith, got_in c.joins-j.ensures.0 c.in-Got-j.is, got_in c.source-s.ensures.0 c.in-Got.is, c.requires, c.if-kind-ne-FROM.false)
-
-pub from-overflow_add-d : goal.from-overflow_add-d
-from-overflow_add-d t c = omega (arith, got_in c.joins-j.ensures.0 c.in-Got-j.is, got_in c.source-s.ensures.0 c.in-Got.is, c.requires, c.if-kind-ne-FROM.false)
-
-pub from-emit-m-requires : goal.from-emit-m-requires
-from-emit-m-requires t c = omega (arith, got_in c.joins-j.ensures.0 c.in-Got-j.is, got_in c.source-s.ensures.0 c.in-Got.is, c.requires, c.if-kind-ne-FROM.false)
-
 pub from-returns : goal.from-returns
 unfolding expr_w absences
-from-returns t c = (ended c.got-2.ensures (omega (arith, got_in c.joins-j.ensures.0 c.in-Got-j.is, got_in c.source-s.ensures.0 c.in-Got.is, c.requires, c.emit-m.ensures.0, c.if-kind-ne-FROM.false)), record { does = λ a p. next (c.source-s.ensures.1.does a p also c.joins-j.ensures.1.does a p) (λ f h. took _ _ _ (is c.requires.1 c.if-kind-ne-FROM.false) (goes _ _ h.0 c.in-Got.is (λ rs F. goes _ _ h.1 c.in-Got-j.is (λ qs G. laid c.got-2.ensures refl (topped (F then G) c.emit-m.ensures.1))))) })
+from-returns t c = (ended c.got-2.ensures (omega (arith, got_in c.joins-j.ensures.0 c.in-Got-j.is, got_in c.source-s.ensures.0 c.in-Got.is, c.requires, c.emit.ensures.0, c.if-kind-ne-FROM.false)), record { does = λ a p. next (c.source-s.ensures.1.does a p also c.joins-j.ensures.1.does a p) (λ f h. took _ _ _ (is c.requires.1 c.if-kind-ne-FROM.false) (goes _ _ h.0 c.in-Got.is (λ rs F. goes _ _ h.1 c.in-Got-j.is (λ qs G. laid c.got-2.ensures refl (topped (F then G) c.emit.ensures.1))))) })
 
 -- ── group ──
-pub group-overflow_add-at : goal.group-overflow_add-at
-group-overflow_add-at t c = omega arith
-
-pub group-overflow_add-at-then-by-ne-BY : goal.group-overflow_add-at-then-by-ne-BY
-group-overflow_add-at-then-by-ne-BY t c = omega arith
-
-pub group-wrong-requires : goal.group-wrong-requires
-group-wrong-requires t c = omega arith
-
 pub group-returns-then-by-ne-BY : goal.group-returns-then-by-ne-BY
 unfolding expr_w absences
 group-returns-then-by-ne-BY t c = (refused c.wrong.ensures.0 (omega arith), record { does = λ a p. at_once (λ f. took _ _ _ (is c.peek-kind.ensures c.in-61.is) (left _ _ _ (isn't c.peek-by.ensures c.if-by-ne-BY.true) (misfit c.peek-by.ensures c.wrong.ensures.1))) })
-
-pub group-overflow_add-at-in-61 : goal.group-overflow_add-at-in-61
-group-overflow_add-at-in-61 t c = omega arith
-
-pub group-list-r-requires : goal.group-list-r-requires
-group-list-r-requires t c = omega arith
 
 pub group-returns-in_default-r : goal.group-returns-in_default-r
 unfolding expr_w absences
 group-returns-in_default-r t c = (passed_on c.list-r.ensures.0 c.in_default-r.is, record { does = λ a p. next (c.list-r.ensures.1.does a p) (λ f h. took _ _ _ (is c.peek-kind.ensures c.in-61.is) (took _ _ _ (is c.peek-by.ensures c.if-by-ne-BY.false) (halts _ _ h c.in_default-r.is))) })
 
-pub group-overflow_cast-n_d : goal.group-overflow_cast-n_d
-group-overflow_cast-n_d t c = omega (arith, got_in c.list-r.ensures.0 c.in-Got.is, c.requires, c.if-by-ne-BY.false, c.peek-by.ensures, c.peek-kind.ensures)
-
-pub group-overflow_sub-d : goal.group-overflow_sub-d
-group-overflow_sub-d t c = omega (arith, got_in c.list-r.ensures.0 c.in-Got.is, c.requires, c.if-by-ne-BY.false, c.peek-by.ensures, c.peek-kind.ensures)
-
-pub group-overflow_add-d : goal.group-overflow_add-d
-group-overflow_add-d t c = omega (arith, got_in c.list-r.ensures.0 c.in-Got.is, c.requires, c.if-by-ne-BY.false, c.peek-by.ensures, c.peek-kind.ensures)
-
-pub group-emit-m-requires : goal.group-emit-m-requires
-group-emit-m-requires t c = omega (arith, got_in c.list-r.ensures.0 c.in-Got.is, c.requires, c.if-by-ne-BY.false, c.peek-by.ensures, c.peek-kind.ensures)
-
-pub group-clause-requires : goal.group-clause-requires
-group-clause-requires t c = omega (arith, got_in c.list-r.ensures.0 c.in-Got.is, c.requires, c.emit-m.ensures.0, c.if-by-ne-BY.false, c.peek-by.ensures, c.peek-kind.ensures)
-
-pub group-emit-m-requires-in-63 : goal.group-emit-m-requires-in-63
-group-emit-m-requires-in-63 t c = omega arith
-
-pub group-overflow_add-at-in-63 : goal.group-overflow_add-at-in-63
-group-overflow_add-at-in-63 t c = omega arith
-
-pub group-expr-requires : goal.group-expr-requires
-group-expr-requires t c = omega arith
-
-pub group-absent-m-requires : goal.group-absent-m-requires
-group-absent-m-requires t c = omega arith
-
 pub group-returns-in-Got : goal.group-returns-in-Got
 unfolding expr_w absences
-group-returns-in-Got t c = (further c.clause.ensures.0 (omega (arith, got_in c.list-r.ensures.0 c.in-Got.is, c.requires, c.emit-m.ensures.0, c.if-by-ne-BY.false, c.peek-by.ensures, c.peek-kind.ensures)), record { does = λ a p. next (c.list-r.ensures.1.does a p also c.clause.ensures.1.does a p) (λ f h. took _ _ _ (is c.peek-kind.ensures c.in-61.is) (took _ _ _ (is c.peek-by.ensures c.if-by-ne-BY.false) (goes _ _ h.0 c.in-Got.is (λ rs F. behind _ _ (topped F c.emit-m.ensures.1) h.1)))) })
+group-returns-in-Got t c = (further c.clause.ensures.0 (omega (arith, got_in c.list-r.ensures.0 c.in-Got.is, c.requires, c.emit.ensures.0, c.if-by-ne-BY.false, c.peek-by.ensures, c.peek-kind.ensures)), record { does = λ a p. next (c.list-r.ensures.1.does a p also c.clause.ensures.1.does a p) (λ f h. took _ _ _ (is c.peek-kind.ensures c.in-61.is) (took _ _ _ (is c.peek-by.ensures c.if-by-ne-BY.false) (goes _ _ h.0 c.in-Got.is (λ rs F. behind _ _ (topped F c.emit.ensures.1) h.1)))) })
 
 pub group-returns-in-63 : goal.group-returns-in-63
 unfolding expr_w absences
-group-returns-in-63 t c = (further c.expr.ensures.0 (omega (arith, c.requires, c.emit-m-in-63.ensures.0, c.peek-kind.ensures)), record { does = λ a p. next ((c.expr.ensures.1 1).does a p) (λ f h. left _ _ _ (differs _ c.peek-kind.ensures c.in-63.is refl) (took _ _ _ (is c.peek-kind.ensures c.in-63.is) (behind _ _ c.emit-m-in-63.ensures.1 h))) })
+group-returns-in-63 t c = (further c.expr.ensures.0 (omega (arith, c.requires, c.emit-in-63.ensures.0, c.peek-kind.ensures)), record { does = λ a p. next ((c.expr.ensures.1 1).does a p) (λ f h. left _ _ _ (differs _ c.peek-kind.ensures c.in-63.is refl) (took _ _ _ (is c.peek-kind.ensures c.in-63.is) (behind _ _ c.emit-in-63.ensures.1 h))) })
 
 pub group-returns-in_default : goal.group-returns-in_default
 unfolding expr_w absences
-group-returns-in_default t c = (ended c.got.ensures (omega arith), record { does = λ a p. at_once (λ f. left _ _ _ (isn't c.peek-kind.ensures c.in_default.in_default-own.rest.0.1) (left _ _ _ (isn't c.peek-kind.ensures c.in_default.in_default-own.rest.1) (laid c.got.ensures refl c.absent-m.ensures.1))) })
+group-returns-in_default t c = (ended c.got.ensures (omega arith), record { does = λ a p. at_once (λ f. left _ _ _ (isn't c.peek-kind.ensures c.in_default.in_default-own.rest.0.1) (left _ _ _ (isn't c.peek-kind.ensures c.in_default.in_default-own.rest.1) (laid c.got.ensures refl c.absent.ensures.1))) })
 
 -- ── joins ──
 pub joins-loop-ask-init : goal.joins-loop-ask-init
 unfolding expr_w begins_join
 joins-loop-ask-init t c = (omega arith, λ a p. loop_start)
 
-pub joins-joined-j-requires : goal.joins-joined-j-requires
-joins-joined-j-requires t c = omega arith
-
 pub joins-returns-in_default : goal.joins-returns-in_default
 unfolding expr_w begins_join
-joins-returns-in_default t c = (passed_on c.joined-j.ensures.0 c.in_default.is, record { does = λ a p. (c.loop-ask.invariant.1 a p).on _ _ (at_once (λ f. took _ _ _ (by_kind begins_join c.peek-kind.ensures (sym c.begins_join.ensures ∙ c.if-not-begins_join.false)) (halts _ _ c.joined-j.ensures.1 c.in_default.is))) })
-
-pub joins-source-s-requires : goal.joins-source-s-requires
-joins-source-s-requires t c = omega (arith, got_in c.joined-j.ensures.0 c.in-Got.is, c.requires, c.peek-kind.ensures, c.loop-ask.invariant)
+joins-returns-in_default t c = (passed_on c.joined-j.ensures.0 c.in_default.is, record { does = λ a p. (c.loop-ask.invariant.1 a p).on _ _ (at_once (λ f. took _ _ _ (by_kind begins_join c.peek-kind.ensures (sym c.begins_join.ensures ∙ c.if-not-begins_join.false)) (halts _ _ (c.joined-j.ensures.1 c.args.table.now) c.in_default.is))) })
 
 pub joins-returns-in_default-s : goal.joins-returns-in_default-s
 unfolding expr_w begins_join
-joins-returns-in_default-s t c = (passed_on c.source-s.ensures.0 c.in_default-s.is, record { does = λ a p. (c.loop-ask.invariant.1 a p).on _ _ (next (c.source-s.ensures.1.does a p) (λ f h. took _ _ _ (by_kind begins_join c.peek-kind.ensures (sym c.begins_join.ensures ∙ c.if-not-begins_join.false)) (goes _ _ c.joined-j.ensures.1 c.in-Got.is (λ os O. halts _ _ h c.in_default-s.is)))) })
-
-pub joins-on-o-requires : goal.joins-on-o-requires
-joins-on-o-requires t c = omega (arith, got_in c.source-s.ensures.0 c.in-Got-s.is, got_in c.joined-j.ensures.0 c.in-Got.is, c.requires, c.peek-kind.ensures, c.loop-ask.invariant)
+joins-returns-in_default-s t c = (passed_on c.source-s.ensures.0 c.in_default-s.is, record { does = λ a p. (c.loop-ask.invariant.1 a p).on _ _ (next (c.source-s.ensures.1.does a p) (λ f h. took _ _ _ (by_kind begins_join c.peek-kind.ensures (sym c.begins_join.ensures ∙ c.if-not-begins_join.false)) (goes _ _ (c.joined-j.ensures.1 c.args.table.now) c.in-Got.is (λ os O. halts _ _ h c.in_default-s.is)))) })
 
 pub joins-returns-in_default-o : goal.joins-returns-in_default-o
 unfolding expr_w begins_join
-joins-returns-in_default-o t c = (passed_on c.on-o.ensures.0 c.in_default-o.is, record { does = λ a p. (c.loop-ask.invariant.1 a p).on _ _ (next (c.source-s.ensures.1.does a p also c.on-o.ensures.1.does a p) (λ f h. took _ _ _ (by_kind begins_join c.peek-kind.ensures (sym c.begins_join.ensures ∙ c.if-not-begins_join.false)) (goes _ _ c.joined-j.ensures.1 c.in-Got.is (λ os O. goes _ _ h.0 c.in-Got-s.is (λ rs F. halts _ _ h.1 c.in_default-o.is))))) })
-
-pub joins-overflow_cast-s_c : goal.joins-overflow_cast-s_c
-joins-overflow_cast-s_c t c = omega (arith, got_in c.on-o.ensures.0 c.in-Got-o.is, got_in c.source-s.ensures.0 c.in-Got-s.is, got_in c.joined-j.ensures.0 c.in-Got.is, c.requires, c.peek-kind.ensures, c.loop-ask.invariant)
-
-pub joins-overflow_sub-e : goal.joins-overflow_sub-e
-joins-overflow_sub-e t c = omega (arith, got_in c.on-o.ensures.0 c.in-Got-o.is, got_in c.source-s.ensures.0 c.in-Got-s.is, got_in c.joined-j.ensures.0 c.in-Got.is, c.requires, c.peek-kind.ensures, c.loop-ask.invariant)
-
-pub joins-overflow_add-e : goal.joins-overflow_add-e
-joins-overflow_add-e t c = omega (arith, got_in c.on-o.ensures.0 c.in-Got-o.is, got_in c.source-s.ensures.0 c.in-Got-s.is, got_in c.joined-j.ensures.0 c.in-Got.is, c.requires, c.peek-kind.ensures, c.loop-ask.invariant)
-
-pub joins-emit-made-requires : goal.joins-emit-made-requires
-joins-emit-made-requires t c = omega (arith, got_in c.on-o.ensures.0 c.in-Got-o.is, got_in c.source-s.ensures.0 c.in-Got-s.is, got_in c.joined-j.ensures.0 c.in-Got.is, c.requires, c.peek-kind.ensures, c.loop-ask.invariant)
-
-pub joins-overflow_add-n : goal.joins-overflow_add-n
-joins-overflow_add-n t c = omega (arith, got_in c.on-o.ensures.0 c.in-Got-o.is, got_in c.source-s.ensures.0 c.in-Got-s.is, got_in c.joined-j.ensures.0 c.in-Got.is, c.requires, c.emit-made.ensures.0, c.peek-kind.ensures, c.loop-ask.invariant)
-
-pub joins-loop-ask-smaller : goal.joins-loop-ask-smaller
-joins-loop-ask-smaller t c = omega (arith, got_in c.on-o.ensures.0 c.in-Got-o.is, got_in c.source-s.ensures.0 c.in-Got-s.is, got_in c.joined-j.ensures.0 c.in-Got.is, c.requires, c.emit-made.ensures.0, c.peek-kind.ensures, c.loop-ask.invariant)
+joins-returns-in_default-o t c = (passed_on c.on-o.ensures.0 c.in_default-o.is, record { does = λ a p. (c.loop-ask.invariant.1 a p).on _ _ (next (c.source-s.ensures.1.does a p also c.on-o.ensures.1.does a p) (λ f h. took _ _ _ (by_kind begins_join c.peek-kind.ensures (sym c.begins_join.ensures ∙ c.if-not-begins_join.false)) (goes _ _ (c.joined-j.ensures.1 c.args.table.now) c.in-Got.is (λ os O. goes _ _ h.0 c.in-Got-s.is (λ rs F. halts _ _ h.1 c.in_default-o.is))))) })
 
 pub joins-loop-ask-preserved : goal.joins-loop-ask-preserved
 unfolding expr_w begins_join
-joins-loop-ask-preserved t c = (omega (arith, got_in c.on-o.ensures.0 c.in-Got-o.is, got_in c.source-s.ensures.0 c.in-Got-s.is, got_in c.joined-j.ensures.0 c.in-Got.is, c.requires, c.emit-made.ensures.0, c.peek-kind.ensures, c.loop-ask.invariant), λ a p. record { on = λ r N' l. (c.loop-ask.invariant.1 a p).on r N' (next (c.source-s.ensures.1.does a p also c.on-o.ensures.1.does a p also l) (λ f h. took _ _ _ (by_kind begins_join c.peek-kind.ensures (sym c.begins_join.ensures ∙ c.if-not-begins_join.false)) (goes _ _ c.joined-j.ensures.1 c.in-Got.is (λ os O. goes _ _ h.0 c.in-Got-s.is (λ rs F. goes _ _ h.1.0 c.in-Got-o.is (λ qs G. behind _ _ (topped (F then G) c.emit-made.ensures.1) h.1.1)))))) })
-
-pub joins-counted-requires : goal.joins-counted-requires
-joins-counted-requires t c = omega arith
+joins-loop-ask-preserved t c = (omega (arith, got_in c.on-o.ensures.0 c.in-Got-o.is, got_in c.source-s.ensures.0 c.in-Got-s.is, got_in c.joined-j.ensures.0 c.in-Got.is, c.requires, c.emit.ensures.0, c.peek-kind.ensures, c.loop-ask.invariant), λ a p. record { on = λ r N' l. (c.loop-ask.invariant.1 a p).on r N' (next (c.source-s.ensures.1.does a p also c.on-o.ensures.1.does a p also l) (λ f h. took _ _ _ (by_kind begins_join c.peek-kind.ensures (sym c.begins_join.ensures ∙ c.if-not-begins_join.false)) (goes _ _ (c.joined-j.ensures.1 c.args.table.now) c.in-Got.is (λ os O. goes _ _ h.0 c.in-Got-s.is (λ rs F. goes _ _ h.1.0 c.in-Got-o.is (λ qs G. behind _ _ (topped (F then G) c.emit.ensures.1) h.1.1)))))) })
 
 pub joins-returns : goal.joins-returns
 unfolding expr_w begins_join
-joins-returns t c = (ended c.counted.ensures (omega arith), record { does = λ a p. (c.loop-ask.invariant.1 a p).on _ _ (at_once (λ f. left _ _ _ (by_kind begins_join c.peek-kind.ensures (sym c.begins_join.ensures ∙ c.if-not-begins_join.true)) (laid c.counted.ensures refl (nothing)))) })
+joins-returns t c = (ended c.counted.ensures (omega arith), record { does = λ a p. (c.loop-ask.invariant.1 a p).on _ _ (at_once (λ f. left _ _ _ (by_kind begins_join c.peek-kind.ensures (sym c.begins_join.ensures ∙ c.if-not-begins_join.true)) (laid c.counted.ensures refl none_came))) })
 
 -- ── leaf ──
-pub leaf-literal_text-requires : goal.leaf-literal_text-requires
-leaf-literal_text-requires t c = omega arith
-
-pub leaf-emit-m-requires : goal.leaf-emit-m-requires
-leaf-emit-m-requires t c = omega arith
-
-pub leaf-overflow_add-at : goal.leaf-overflow_add-at
-leaf-overflow_add-at t c = omega arith
-
 pub leaf-returns-in-Some : goal.leaf-returns-in-Some
 unfolding expr_w
-leaf-returns-in-Some t c = (ended c.got.ensures (omega (arith, c.requires, c.emit-m.ensures.0)), λ s. record { does = λ a p. at_once (λ f. took _ _ _ (by_kind (λ k. ltb 0 (literal_code k)) c.requires.3 (lt-ltb 0 (literal_code c.args.kind) (there c.literal_code.ensures c.in-Some.is).1)) (laid c.got.ensures refl (filled_as (ap₂ (λ y z. one y z 0 1) ((there c.literal_code.ensures c.in-Some.is).0 ∙ ap literal_code c.requires.3.is) (c.literal_text.ensures ∙ ap (literal_text c.args.lists.now c.args.at) c.requires.3.is)) c.emit-m.ensures.1))) })
-
-pub leaf-named-m-requires : goal.leaf-named-m-requires
-leaf-named-m-requires t c = omega arith
-
-pub leaf-overflow_add-at-2 : goal.leaf-overflow_add-at-2
-leaf-overflow_add-at-2 t c = omega arith
-
-pub leaf-overflow_add-at-then-kind-ne-INDEXED : goal.leaf-overflow_add-at-then-kind-ne-INDEXED
-leaf-overflow_add-at-then-kind-ne-INDEXED t c = omega (arith, c.requires, c.if-kind-ne-INDEXED.true, c.if-next-eq-LP.true, c.peek-next.ensures, c.named-m.ensures.0)
-
-pub leaf-deeper-requires : goal.leaf-deeper-requires
-leaf-deeper-requires t c = omega (arith, c.requires, c.if-kind-ne-INDEXED.true, c.if-next-eq-LP.true, c.peek-next.ensures, c.named-m.ensures.0)
-
-pub leaf-call-requires : goal.leaf-call-requires
-leaf-call-requires t c = omega (arith, c.requires, c.if-kind-ne-INDEXED.true, c.if-next-eq-LP.true, c.peek-next.ensures, c.named-m.ensures.0)
+leaf-returns-in-Some t c = (ended c.got.ensures (omega (arith, c.requires, c.emit.ensures.0)), λ s. record { does = λ a p. at_once (λ f. took _ _ _ (by_kind (λ k. ltb 0 (literal_code k)) c.requires.3 (lt-ltb 0 (literal_code c.args.kind) (there c.literal_code.ensures c.in-Some.is).1)) (laid c.got.ensures refl (fills_as (ap₂ (λ y z. one y z 0 1) ((there c.literal_code.ensures c.in-Some.is).0 ∙ ap literal_code c.requires.3.is) (c.literal_text.ensures ∙ ap (literal_text c.args.lists.now c.args.at) c.requires.3.is)) c.emit.ensures.1))) })
 
 pub leaf-returns-then-kind-ne-INDEXED : goal.leaf-returns-then-kind-ne-INDEXED
 unfolding expr_w
-leaf-returns-then-kind-ne-INDEXED t c = (further c.call.ensures.0 (omega (arith, c.requires, c.if-kind-ne-INDEXED.true, c.if-next-eq-LP.true, c.peek-next.ensures, c.named-m.ensures.0)), λ s. record { does = λ a p. next (c.call.ensures.1.does (deeper a) (c.deeper.ensures.packs a s p)) (λ f h. left _ _ _ (by_kind (λ k. ltb 0 (literal_code k)) c.requires.3 (le-ltb 0 (literal_code c.args.kind) (omega (arith, not_there c.literal_code.ensures c.in_default.is)))) (took _ _ _ (both_i _ _ (is c.peek-next.ensures c.if-next-eq-LP.true) (by_kind heads_call c.requires.3 (heads_call_lem c.args.kind c.requires.4 c.requires.5 (omega (arith, not_there c.literal_code.ensures c.in_default.is)) c.if-kind-ne-INDEXED.true))) (behind _ _ (c.named-m.ensures.1 c.requires.3.is) h))) })
-
-pub leaf-overflow_add-at-3 : goal.leaf-overflow_add-at-3
-leaf-overflow_add-at-3 t c = omega (arith, c.requires, c.peek-next.ensures, c.named-m.ensures.0)
-
-pub leaf-dotted-requires : goal.leaf-dotted-requires
-leaf-dotted-requires t c = omega (arith, c.requires, c.peek-next.ensures, c.named-m.ensures.0)
+leaf-returns-then-kind-ne-INDEXED t c = (further c.call.ensures.0 (omega (arith, c.requires, c.if-kind-ne-INDEXED.true, c.if-next-eq-LP.true, c.peek-next.ensures, c.named.ensures.0)), λ s. record { does = λ a p. next (c.call.ensures.1.does (deeper a) (c.deeper.ensures.packs a s p)) (λ f h. left _ _ _ (by_kind (λ k. ltb 0 (literal_code k)) c.requires.3 (le-ltb 0 (literal_code c.args.kind) (omega (arith, not_there c.literal_code.ensures c.in_default.is)))) (took _ _ _ (both_i _ _ (is c.peek-next.ensures c.if-next-eq-LP.true) (by_kind heads_call c.requires.3 (heads_call_lem c.args.kind c.requires.4 c.requires.5 (omega (arith, not_there c.literal_code.ensures c.in_default.is)) c.if-kind-ne-INDEXED.true))) (behind _ _ (c.named.ensures.1 c.requires.3.is) h))) })
 
 pub leaf-returns : goal.leaf-returns
 unfolding expr_w
-leaf-returns t c = (further c.dotted.ensures.0 (omega (arith, c.requires, c.peek-next.ensures, c.named-m.ensures.0)), λ s. record { does = λ a p. at_once (λ f. left _ _ _ (by_kind (λ k. ltb 0 (literal_code k)) c.requires.3 (le-ltb 0 (literal_code c.args.kind) (omega (arith, not_there c.literal_code.ensures c.in_default.is)))) (left _ _ _ (elim c.if-next-eq-LP.branch [ leaf-then-next-eq-LP+else-kind-ne-INDEXED w ↦ no_right _ _ (by_kind heads_call c.requires.3 (indexed_heads_none _ w.if-kind-ne-INDEXED.false)) | leaf-else-next-eq-LP w ↦ no_left _ _ (isn't c.peek-next.ensures w.if-next-eq-LP.false) ]) (behind _ _ (c.named-m.ensures.1 c.requires.3.is) (by_walk (ap (λ z. dotted_w (kinds_of c.args.lists.now) (texts_of c.args.lists.now) (c.args.at + 1) z) (sym (c.strength.ensures ∙ strength_of p))) c.dotted.ensures.1)))) })
+leaf-returns t c = (further c.dotted.ensures.0 (omega (arith, c.requires, c.peek-next.ensures, c.named.ensures.0)), λ s. record { does = λ a p. at_once (λ f. left _ _ _ (by_kind (λ k. ltb 0 (literal_code k)) c.requires.3 (le-ltb 0 (literal_code c.args.kind) (omega (arith, not_there c.literal_code.ensures c.in_default.is)))) (left _ _ _ (elim c.if-next-eq-LP.branch [ leaf-then-next-eq-LP+else-kind-ne-INDEXED w ↦ no_right _ _ (by_kind heads_call c.requires.3 (indexed_heads_none _ w.if-kind-ne-INDEXED.false)) | leaf-else-next-eq-LP w ↦ no_left _ _ (isn't c.peek-next.ensures w.if-next-eq-LP.false) ]) (behind _ _ (c.named.ensures.1 c.requires.3.is) (by_walk (ap (λ z. dotted_w (kinds_of c.args.lists.now) (texts_of c.args.lists.now) (c.args.at + 1) z) (sym (c.strength.ensures ∙ strength_of p))) c.dotted.ensures.1)))) })
 
 -- ── limit ──
-pub limit-absent-m-requires : goal.limit-absent-m-requires
-limit-absent-m-requires t c = omega arith
-
 pub limit-returns-then-kind-ne-LIMIT : goal.limit-returns-then-kind-ne-LIMIT
 unfolding expr_w absences
-limit-returns-then-kind-ne-LIMIT t c = (ended c.got.ensures (omega arith), record { does = λ a p. at_once (λ f. left _ _ _ (isn't c.peek-kind.ensures c.if-kind-ne-LIMIT.true) (laid c.got.ensures refl c.absent-m.ensures.1)) })
-
-pub limit-overflow_add-at : goal.limit-overflow_add-at
-limit-overflow_add-at t c = omega arith
-
-pub limit-expr-a-requires : goal.limit-expr-a-requires
-limit-expr-a-requires t c = omega arith
+limit-returns-then-kind-ne-LIMIT t c = (ended c.got.ensures (omega arith), record { does = λ a p. at_once (λ f. left _ _ _ (isn't c.peek-kind.ensures c.if-kind-ne-LIMIT.true) (laid c.got.ensures refl c.absent.ensures.1)) })
 
 pub limit-returns-in_default : goal.limit-returns-in_default
 unfolding expr_w absences
 limit-returns-in_default t c = (passed_on c.expr-a.ensures.0 c.in_default.is, record { does = λ a p. next ((c.expr-a.ensures.1 1).does a p) (λ f h. took _ _ _ (is c.peek-kind.ensures c.if-kind-ne-LIMIT.false) (halts _ _ h c.in_default.is)) })
 
-pub limit-overflow_add-c : goal.limit-overflow_add-c
-limit-overflow_add-c t c = omega (arith, got_in c.expr-a.ensures.0 c.in-Got.is, c.requires, c.peek-next.ensures, c.if-kind-ne-LIMIT.false, c.peek-kind.ensures)
-
-pub limit-expr-requires : goal.limit-expr-requires
-limit-expr-requires t c = omega (arith, got_in c.expr-a.ensures.0 c.in-Got.is, c.requires, c.peek-next.ensures, c.if-kind-ne-LIMIT.false, c.peek-kind.ensures)
-
-pub limit-overflow_add-c-in-14 : goal.limit-overflow_add-c-in-14
-limit-overflow_add-c-in-14 t c = omega (arith, got_in c.expr-a.ensures.0 c.in-Got.is, c.requires, c.peek-next.ensures, c.if-kind-ne-LIMIT.false, c.peek-kind.ensures)
-
-pub limit-expr-b-requires : goal.limit-expr-b-requires
-limit-expr-b-requires t c = omega (arith, got_in c.expr-a.ensures.0 c.in-Got.is, c.requires, c.peek-next.ensures, c.if-kind-ne-LIMIT.false, c.peek-kind.ensures)
-
 pub limit-returns-in_default-b : goal.limit-returns-in_default-b
 unfolding expr_w absences
 limit-returns-in_default-b t c = (passed_on c.expr-b.ensures.0 c.in_default-b.is, record { does = λ a p. next ((c.expr-a.ensures.1 1).does a p also (c.expr-b.ensures.1 1).does a p) (λ f h. took _ _ _ (is c.peek-kind.ensures c.if-kind-ne-LIMIT.false) (goes _ _ h.0 c.in-Got.is (λ rs F. left _ _ _ (differs _ c.peek-next.ensures c.in-14.is refl) (took _ _ _ (is c.peek-next.ensures c.in-14.is) (halts _ _ h.1 c.in_default-b.is))))) })
-
-pub limit-rotate-requires : goal.limit-rotate-requires
-limit-rotate-requires t c = omega (arith, got_in c.expr-b.ensures.0 c.in-Got-b.is, got_in c.expr-a.ensures.0 c.in-Got.is, c.requires, c.peek-next.ensures, c.if-kind-ne-LIMIT.false, c.peek-kind.ensures)
-
-pub limit-absent-m-requires-in_default-next : goal.limit-absent-m-requires-in_default-next
-limit-absent-m-requires-in_default-next t c = omega (arith, got_in c.expr-a.ensures.0 c.in-Got.is, c.requires, c.peek-next.ensures, c.if-kind-ne-LIMIT.false, c.peek-kind.ensures)
 
 pub limit-returns-in-71 : goal.limit-returns-in-71
 unfolding expr_w absences
@@ -699,76 +333,37 @@ limit-returns-in-71 t c = (further c.expr.ensures.0 (omega (arith, got_in c.expr
 
 pub limit-returns-in-Got-b : goal.limit-returns-in-Got-b
 unfolding expr_w absences
-limit-returns-in-Got-b t c = (record { holds = omega (arith, got_in c.expr-b.ensures.0 c.in-Got-b.is, got_in c.expr-a.ensures.0 c.in-Got.is) }, record { does = λ a p. next ((c.expr-a.ensures.1 1).does a p also (c.expr-b.ensures.1 1).does a p) (λ f h. took _ _ _ (is c.peek-kind.ensures c.if-kind-ne-LIMIT.false) (goes _ _ h.0 c.in-Got.is (λ rs F. left _ _ _ (differs _ c.peek-next.ensures c.in-14.is refl) (took _ _ _ (is c.peek-next.ensures c.in-14.is) (goes _ _ h.1 c.in-Got-b.is (λ qs G. laid refl refl (c.rotate.ensures _ rs qs F.counted (F then G)))))))) })
+limit-returns-in-Got-b t c = (ended c.in-Got-b.is (omega (arith, got_in c.expr-b.ensures.0 c.in-Got-b.is, got_in c.expr-a.ensures.0 c.in-Got.is, c.rotate.ensures.kept)), record { does = λ a p. next ((c.expr-a.ensures.1 1).does a p also (c.expr-b.ensures.1 1).does a p) (λ f h. took _ _ _ (is c.peek-kind.ensures c.if-kind-ne-LIMIT.false) (goes _ _ h.0 c.in-Got.is (λ rs F. left _ _ _ (differs _ c.peek-next.ensures c.in-14.is refl) (took _ _ _ (is c.peek-next.ensures c.in-14.is) (goes _ _ h.1 c.in-Got-b.is (λ qs G. laid c.in-Got-b.is refl (c.rotate.ensures.turns _ rs qs refl F.filled.counted (F then G)))))))) })
 
 pub limit-returns-in_default-next : goal.limit-returns-in_default-next
 unfolding expr_w absences
-limit-returns-in_default-next t c = (ended c.got-in_default-next.ensures (omega (arith, got_in c.expr-a.ensures.0 c.in-Got.is, c.requires, c.absent-m-in_default-next.ensures.0, c.peek-next.ensures, c.if-kind-ne-LIMIT.false, c.peek-kind.ensures)), record { does = λ a p. next ((c.expr-a.ensures.1 1).does a p) (λ f h. took _ _ _ (is c.peek-kind.ensures c.if-kind-ne-LIMIT.false) (goes _ _ h c.in-Got.is (λ rs F. left _ _ _ (isn't c.peek-next.ensures c.in_default-next.in_default-next-own.rest.0.1) (left _ _ _ (isn't c.peek-next.ensures c.in_default-next.in_default-next-own.rest.1) (laid c.got-in_default-next.ensures refl (F then c.absent-m-in_default-next.ensures.1)))))) })
+limit-returns-in_default-next t c = (ended c.got-in_default-next.ensures (omega (arith, got_in c.expr-a.ensures.0 c.in-Got.is, c.requires, c.absent-in_default-next.ensures.0, c.peek-next.ensures, c.if-kind-ne-LIMIT.false, c.peek-kind.ensures)), record { does = λ a p. next ((c.expr-a.ensures.1 1).does a p) (λ f h. took _ _ _ (is c.peek-kind.ensures c.if-kind-ne-LIMIT.false) (goes _ _ h c.in-Got.is (λ rs F. left _ _ _ (isn't c.peek-next.ensures c.in_default-next.in_default-next-own.rest.0.1) (left _ _ _ (isn't c.peek-next.ensures c.in_default-next.in_default-next-own.rest.1) (laid c.got-in_default-next.ensures refl (F then c.absent-in_default-next.ensures.1)))))) })
 
 -- ── list ──
 pub list-loop-d-init : goal.list-loop-d-init
 unfolding expr_w
 list-loop-d-init t c = (omega arith, λ a p. loop_start)
 
-pub list-expr-r-requires : goal.list-expr-r-requires
-list-expr-r-requires t c = omega arith
-
 pub list-returns-in_default : goal.list-returns-in_default
 unfolding expr_w
 list-returns-in_default t c = (passed_on c.expr-r.ensures.0 c.in_default.is, record { does = λ a p. (c.loop-d.invariant.1 a p).on _ _ (next ((c.expr-r.ensures.1 1).does a p) (λ f h. halts _ _ h c.in_default.is)) })
 
-pub list-overflow_add-n : goal.list-overflow_add-n
-list-overflow_add-n t c = omega (arith, got_in c.expr-r.ensures.0 c.in-Got.is, c.requires, c.loop-d.invariant)
-
-pub list-overflow_add-at : goal.list-overflow_add-at
-list-overflow_add-at t c = omega (arith, got_in c.expr-r.ensures.0 c.in-Got.is, c.requires, c.if-kind-ne-COMMA.false, c.peek-kind.ensures, c.loop-d.invariant)
-
-pub list-loop-d-smaller : goal.list-loop-d-smaller
-list-loop-d-smaller t c = omega (arith, got_in c.expr-r.ensures.0 c.in-Got.is, c.requires, c.if-kind-ne-COMMA.false, c.peek-kind.ensures, c.loop-d.invariant)
-
 pub list-loop-d-preserved : goal.list-loop-d-preserved
 unfolding expr_w
 list-loop-d-preserved t c = (omega (arith, got_in c.expr-r.ensures.0 c.in-Got.is, c.requires, c.if-kind-ne-COMMA.false, c.peek-kind.ensures, c.loop-d.invariant), λ a p. record { on = λ r N' l. (c.loop-d.invariant.1 a p).on r N' (next ((c.expr-r.ensures.1 1).does a p also l) (λ f h. goes _ _ h.0 c.in-Got.is (λ rs F. took _ _ _ (is c.peek-kind.ensures c.if-kind-ne-COMMA.false) (behind _ _ F h.1)))) })
-
-pub list-counted-requires : goal.list-counted-requires
-list-counted-requires t c = omega (arith, got_in c.expr-r.ensures.0 c.in-Got.is, c.requires, c.if-kind-ne-COMMA.true, c.peek-kind.ensures, c.loop-d.invariant)
 
 pub list-returns : goal.list-returns
 unfolding expr_w
 list-returns t c = (ended c.counted.ensures (omega (arith, got_in c.expr-r.ensures.0 c.in-Got.is, c.requires, c.if-kind-ne-COMMA.true, c.peek-kind.ensures, c.loop-d.invariant)), record { does = λ a p. (c.loop-d.invariant.1 a p).on _ _ (next ((c.expr-r.ensures.1 1).does a p) (λ f h. goes _ _ h c.in-Got.is (λ rs F. left _ _ _ (isn't c.peek-kind.ensures c.if-kind-ne-COMMA.true) (laid c.counted.ensures refl (F))))) })
 
 -- ── on ──
-pub on-overflow_add-at : goal.on-overflow_add-at
-on-overflow_add-at t c = omega arith
-
-pub on-expr-r-requires : goal.on-expr-r-requires
-on-expr-r-requires t c = omega arith
-
 pub on-returns-in_default-r : goal.on-returns-in_default-r
 unfolding expr_w absences
 on-returns-in_default-r t c = (passed_on c.expr-r.ensures.0 c.in_default-r.is, record { does = λ a p. next ((c.expr-r.ensures.1 1).does a p) (λ f h. took _ _ _ (is c.peek-kind.ensures c.in-58.is) (halts _ _ h c.in_default-r.is)) })
 
-pub on-overflow_sub-d : goal.on-overflow_sub-d
-on-overflow_sub-d t c = omega (arith, got_in c.expr-r.ensures.0 c.in-Got.is, c.requires, c.peek-kind.ensures)
-
-pub on-overflow_add-d : goal.on-overflow_add-d
-on-overflow_add-d t c = omega (arith, got_in c.expr-r.ensures.0 c.in-Got.is, c.requires, c.peek-kind.ensures)
-
-pub on-emit-m-requires : goal.on-emit-m-requires
-on-emit-m-requires t c = omega (arith, got_in c.expr-r.ensures.0 c.in-Got.is, c.requires, c.peek-kind.ensures)
-
-pub on-overflow_add-at-in-59 : goal.on-overflow_add-at-in-59
-on-overflow_add-at-in-59 t c = omega arith
-
-pub on-using-requires : goal.on-using-requires
-on-using-requires t c = omega arith
-
-pub on-absent-m-requires : goal.on-absent-m-requires
-on-absent-m-requires t c = omega arith
-
 pub on-returns-in-Got : goal.on-returns-in-Got
 unfolding expr_w absences
-on-returns-in-Got t c = (ended c.got.ensures (omega (arith, got_in c.expr-r.ensures.0 c.in-Got.is, c.requires, c.emit-m.ensures.0, c.peek-kind.ensures)), record { does = λ a p. next ((c.expr-r.ensures.1 1).does a p) (λ f h. took _ _ _ (is c.peek-kind.ensures c.in-58.is) (goes _ _ h c.in-Got.is (λ rs F. laid c.got.ensures refl (topped F c.emit-m.ensures.1)))) })
+on-returns-in-Got t c = (ended c.got.ensures (omega (arith, got_in c.expr-r.ensures.0 c.in-Got.is, c.requires, c.emit.ensures.0, c.peek-kind.ensures)), record { does = λ a p. next ((c.expr-r.ensures.1 1).does a p) (λ f h. took _ _ _ (is c.peek-kind.ensures c.in-58.is) (goes _ _ h c.in-Got.is (λ rs F. laid c.got.ensures refl (topped F c.emit.ensures.1)))) })
 
 pub on-returns-in-59 : goal.on-returns-in-59
 unfolding expr_w absences
@@ -776,38 +371,17 @@ on-returns-in-59 t c = (further c.using.ensures.0 (omega arith), record { does =
 
 pub on-returns-in_default : goal.on-returns-in_default
 unfolding expr_w absences
-on-returns-in_default t c = (ended c.got-in_default.ensures (omega arith), record { does = λ a p. at_once (λ f. left _ _ _ (isn't c.peek-kind.ensures c.in_default.in_default-own.rest.0.1) (left _ _ _ (isn't c.peek-kind.ensures c.in_default.in_default-own.rest.1) (laid c.got-in_default.ensures refl c.absent-m.ensures.1))) })
+on-returns-in_default t c = (ended c.got-in_default.ensures (omega arith), record { does = λ a p. at_once (λ f. left _ _ _ (isn't c.peek-kind.ensures c.in_default.in_default-own.rest.0.1) (left _ _ _ (isn't c.peek-kind.ensures c.in_default.in_default-own.rest.1) (laid c.got-in_default.ensures refl c.absent.ensures.1))) })
 
 -- ── op ──
-pub op-overflow_add-at : goal.op-overflow_add-at
-op-overflow_add-at t c = omega arith
-
-pub op-binary-requires : goal.op-binary-requires
-op-binary-requires t c = omega arith
-
 pub op-returns-then-kind-lt-NOT : goal.op-returns-then-kind-lt-NOT
 op-returns-then-kind-lt-NOT t c = (further c.binary.ensures.0 (omega arith), λ s pre b. record { does = λ a p. op_binary a s pre c.requires.2 c.if-kind-lt-NOT.true ((c.binary.ensures.1 s pre b).does a p) })
-
-pub op-overflow_add-at-then-kind-eq-NOT-2 : goal.op-overflow_add-at-then-kind-eq-NOT-2
-op-overflow_add-at-then-kind-eq-NOT-2 t c = omega arith
 
 pub op-overflow_add-not-in-40 : goal.op-overflow_add-not-in-40
 op-overflow_add-not-in-40 t c = let n : c.if-kind-eq-NOT.not ≤ 1 = omega arith in let s : Seen c.args.lists.now (c.args.at + c.if-kind-eq-NOT.not) c.if-kind-eq-NOT-2.word = elim c.if-kind-eq-NOT.branch [ op-then-kind-eq-NOT v ↦ elim c.if-kind-eq-NOT-2.branch [ op-then-kind-eq-NOT-2 w ↦ seen_as w.peek-word.ensures (omega arith) w.word-is | op-else-kind-eq-NOT-2 w ↦ absurd (omega arith) ] | op-else-kind-eq-NOT v ↦ elim c.if-kind-eq-NOT-2.branch [ op-then-kind-eq-NOT-2 w ↦ absurd (omega arith) | op-else-kind-eq-NOT-2 w ↦ seen_as c.requires.2 (omega arith) w.word-is ] ] in let l : c.text.result ≤ 3 = rw c.text.ensures (like_text c.args.lists.now _ c.args.lists.now.liked (sym s.is ∙ c.in-40.is)) in omega (arith)
 
-pub op-notnull-requires : goal.op-notnull-requires
-op-notnull-requires t c = omega arith
-
 pub op-returns-then-not-eq1 : goal.op-returns-then-not-eq1
 op-returns-then-not-eq1 t c = let way : Way c.args.lists.now c.args.at c.args.kind c.if-kind-eq-NOT.not c.if-kind-eq-NOT-2.word = way_of c.args.at (elim c.if-kind-eq-NOT.branch [ op-then-kind-eq-NOT w ↦ inl (w.if-kind-eq-NOT.true, w.not-is) | op-else-kind-eq-NOT w ↦ inr (w.if-kind-eq-NOT.false, w.not-is) ]) (elim c.if-kind-eq-NOT-2.branch [ op-then-kind-eq-NOT-2 w ↦ inl (w.if-kind-eq-NOT-2.true, seen_as w.peek-word.ensures refl w.word-is) | op-else-kind-eq-NOT-2 w ↦ inr (w.if-kind-eq-NOT-2.false, w.word-is) ]) in (let n : c.if-kind-eq-NOT.not ≤ 1 = omega arith in let s : Seen c.args.lists.now (c.args.at + c.if-kind-eq-NOT.not) c.if-kind-eq-NOT-2.word = elim c.if-kind-eq-NOT.branch [ op-then-kind-eq-NOT v ↦ elim c.if-kind-eq-NOT-2.branch [ op-then-kind-eq-NOT-2 w ↦ seen_as w.peek-word.ensures (omega arith) w.word-is | op-else-kind-eq-NOT-2 w ↦ absurd (omega arith) ] | op-else-kind-eq-NOT v ↦ elim c.if-kind-eq-NOT-2.branch [ op-then-kind-eq-NOT-2 w ↦ absurd (omega arith) | op-else-kind-eq-NOT-2 w ↦ seen_as c.requires.2 (omega arith) w.word-is ] ] in null_before c.notnull.ensures.0 (λ e. omega (arith)) (omega (arith)), λ s pre b. record { does = λ a p. op_null a s pre c.requires.2 way c.if-not-eq1.true c.in_default.in_default-own.rest.0.0.1 c.in_default.in_default-own.rest.0.1 c.in_default.in_default-own.rest.1 (c.notnull.ensures.1 pre b) })
-
-pub op-overflow_sub-made : goal.op-overflow_sub-made
-op-overflow_sub-made t c = omega (arith, c.requires, c.if-not-eq1.false, c.if-kind-lt-NOT.false)
-
-pub op-overflow_add-made : goal.op-overflow_add-made
-op-overflow_add-made t c = omega (arith, c.requires, c.if-not-eq1.false, c.if-kind-lt-NOT.false)
-
-pub op-emit-m-requires : goal.op-emit-m-requires
-op-emit-m-requires t c = omega (arith, c.requires, c.if-not-eq1.false, c.if-kind-lt-NOT.false)
 
 pub op-returns-in-38 : goal.op-returns-in-38
 op-returns-in-38 t c = let way : Way c.args.lists.now c.args.at c.args.kind c.if-kind-eq-NOT.not c.if-kind-eq-NOT-2.word = way_of c.args.at (elim c.if-kind-eq-NOT.branch [ op-then-kind-eq-NOT w ↦ inl (w.if-kind-eq-NOT.true, w.not-is) | op-else-kind-eq-NOT w ↦ inr (w.if-kind-eq-NOT.false, w.not-is) ]) (elim c.if-kind-eq-NOT-2.branch [ op-then-kind-eq-NOT-2 w ↦ inl (w.if-kind-eq-NOT-2.true, seen_as w.peek-word.ensures refl w.word-is) | op-else-kind-eq-NOT-2 w ↦ inr (w.if-kind-eq-NOT-2.false, w.word-is) ]) in (further c.among.ensures.0 (omega (arith, c.requires, c.if-kind-lt-NOT.false)), λ s pre b. record { does = λ a p. op_inside a s pre c.requires.2 (omega (arith, c.if-kind-lt-NOT.false)) way c.in-38.is ((c.among.ensures.1 s pre b).does a p) })
@@ -825,51 +399,9 @@ pub op-returns-in-43 : goal.op-returns-in-43
 op-returns-in-43 t c = let way : Way c.args.lists.now c.args.at c.args.kind c.if-kind-eq-NOT.not c.if-kind-eq-NOT-2.word = way_of c.args.at (elim c.if-kind-eq-NOT.branch [ op-then-kind-eq-NOT w ↦ inl (w.if-kind-eq-NOT.true, w.not-is) | op-else-kind-eq-NOT w ↦ inr (w.if-kind-eq-NOT.false, w.not-is) ]) (elim c.if-kind-eq-NOT-2.branch [ op-then-kind-eq-NOT-2 w ↦ inl (w.if-kind-eq-NOT-2.true, seen_as w.peek-word.ensures refl w.word-is) | op-else-kind-eq-NOT-2 w ↦ inr (w.if-kind-eq-NOT-2.false, w.word-is) ]) in (further c.collate.ensures.0 (omega (arith, c.requires, c.if-not-eq1.false, c.if-kind-lt-NOT.false)), λ s pre b. record { does = λ a p. op_collate a s pre c.requires.2 (omega (arith, c.if-kind-lt-NOT.false)) way c.if-not-eq1.false c.in_default.in_default-own.rest.0.0.1 c.in_default.in_default-own.rest.0.1 c.in_default.in_default-own.rest.1 c.in-43.is (c.collate.ensures.1 pre b) })
 
 pub op-returns-in_default-kind : goal.op-returns-in_default-kind
-op-returns-in_default-kind t c = let way : Way c.args.lists.now c.args.at c.args.kind c.if-kind-eq-NOT.not c.if-kind-eq-NOT-2.word = way_of c.args.at (elim c.if-kind-eq-NOT.branch [ op-then-kind-eq-NOT w ↦ inl (w.if-kind-eq-NOT.true, w.not-is) | op-else-kind-eq-NOT w ↦ inr (w.if-kind-eq-NOT.false, w.not-is) ]) (elim c.if-kind-eq-NOT-2.branch [ op-then-kind-eq-NOT-2 w ↦ inl (w.if-kind-eq-NOT-2.true, seen_as w.peek-word.ensures refl w.word-is) | op-else-kind-eq-NOT-2 w ↦ inr (w.if-kind-eq-NOT-2.false, w.word-is) ]) in (let n : c.if-kind-eq-NOT.not ≤ 1 = omega arith in ended c.got.ensures (omega (arith)), λ s pre b. record { does = λ a p. op_postfix a s pre c.requires.2 (omega (arith, c.if-kind-lt-NOT.false)) way c.if-not-eq1.false c.in_default.in_default-own.rest.0.0.1 c.in_default.in_default-own.rest.0.1 c.in_default.in_default-own.rest.1 c.in_default-kind.in_default-kind-own.rest.0.1 c.in_default-kind.in_default-kind-own.rest.1 (laid c.got.ensures refl (closed _ pre b c.emit-m.ensures.1)) })
+op-returns-in_default-kind t c = let way : Way c.args.lists.now c.args.at c.args.kind c.if-kind-eq-NOT.not c.if-kind-eq-NOT-2.word = way_of c.args.at (elim c.if-kind-eq-NOT.branch [ op-then-kind-eq-NOT w ↦ inl (w.if-kind-eq-NOT.true, w.not-is) | op-else-kind-eq-NOT w ↦ inr (w.if-kind-eq-NOT.false, w.not-is) ]) (elim c.if-kind-eq-NOT-2.branch [ op-then-kind-eq-NOT-2 w ↦ inl (w.if-kind-eq-NOT-2.true, seen_as w.peek-word.ensures refl w.word-is) | op-else-kind-eq-NOT-2 w ↦ inr (w.if-kind-eq-NOT-2.false, w.word-is) ]) in (let n : c.if-kind-eq-NOT.not ≤ 1 = omega arith in ended c.got.ensures (omega (arith)), λ s pre b. record { does = λ a p. op_postfix a s pre c.requires.2 (omega (arith, c.if-kind-lt-NOT.false)) way c.if-not-eq1.false c.in_default.in_default-own.rest.0.0.1 c.in_default.in_default-own.rest.0.1 c.in_default.in_default-own.rest.1 c.in_default-kind.in_default-kind-own.rest.0.1 c.in_default-kind.in_default-kind-own.rest.1 (laid c.got.ensures refl (closed _ pre b c.emit.ensures.1)) })
 
 -- ── operand ──
-pub operand-overflow_add-at : goal.operand-overflow_add-at
-operand-overflow_add-at t c = omega arith
-
-pub operand-deeper-requires : goal.operand-deeper-requires
-operand-deeper-requires t c = omega arith
-
-pub operand-paren-requires : goal.operand-paren-requires
-operand-paren-requires t c = omega arith
-
-pub operand-overflow_add-at-in-44 : goal.operand-overflow_add-at-in-44
-operand-overflow_add-at-in-44 t c = omega arith
-
-pub operand-deeper-requires-in-44 : goal.operand-deeper-requires-in-44
-operand-deeper-requires-in-44 t c = omega arith
-
-pub operand-case-requires : goal.operand-case-requires
-operand-case-requires t c = omega arith
-
-pub operand-overflow_add-at-in-49 : goal.operand-overflow_add-at-in-49
-operand-overflow_add-at-in-49 t c = omega arith
-
-pub operand-deeper-requires-in-49 : goal.operand-deeper-requires-in-49
-operand-deeper-requires-in-49 t c = omega arith
-
-pub operand-cast-requires : goal.operand-cast-requires
-operand-cast-requires t c = omega arith
-
-pub operand-overflow_add-at-in-51 : goal.operand-overflow_add-at-in-51
-operand-overflow_add-at-in-51 t c = omega arith
-
-pub operand-deeper-requires-in-51 : goal.operand-deeper-requires-in-51
-operand-deeper-requires-in-51 t c = omega arith
-
-pub operand-exists-requires : goal.operand-exists-requires
-operand-exists-requires t c = omega arith
-
-pub operand-wrong-requires : goal.operand-wrong-requires
-operand-wrong-requires t c = omega arith
-
-pub operand-sign-requires : goal.operand-sign-requires
-operand-sign-requires t c = omega arith
-
 pub operand-returns-in-12 : goal.operand-returns-in-12
 unfolding expr_w
 operand-returns-in-12 t c = (further c.paren.ensures.0 (omega arith), λ s. record { does = λ a p. next (c.paren.ensures.1.does (deeper a) (c.deeper.ensures.packs a s p)) (λ f h. took _ _ _ (is c.requires.2 c.in-12.is) (h)) })
@@ -899,9 +431,6 @@ pub ops-loop-ask-init : goal.ops-loop-ask-init
 unfolding expr_w
 ops-loop-ask-init t c = (omega arith, λ a s pre p b r N l. so l (λ f h. h pre b))
 
-pub ops-overflow_add-k : goal.ops-overflow_add-k
-ops-overflow_add-k t c = omega (arith, c.requires, c.if-left-k.false, c.if-k-s.false, c.if-k-eq0.false, c.peek-kind.ensures, c.loop-ask.invariant)
-
 pub ops-deeper-requires : goal.ops-deeper-requires
 ops-deeper-requires t c = let s : c.strength-k.result ≤ 10 = rw c.strength-k.ensures (strength_small _) in omega (arith)
 
@@ -912,39 +441,18 @@ pub ops-returns-in_default : goal.ops-returns-in_default
 unfolding expr_w
 ops-returns-in_default t c = (passed_on c.op-r.ensures.0 c.in_default.is, λ s pre b. record { does = λ a p. c.loop-ask.invariant.1 a s pre p b _ _ (next (for_any _ _ (λ pre e. (c.op-r.ensures.1 (c.strength-k.result + 1) pre e).does (deeper a) (c.deeper.ensures.packs a s p)) (omega (arith, c.requires, c.loop-ask.invariant.0))) (λ f h z e. ops_walk f a s c.loop-ask.left z c.peek-kind.ensures c.strength-k.ensures (left _ _ _ (ne_eqb _ _ c.if-k-eq0.false) (left _ _ _ (le-ltb c.strength-k.result s (omega (arith, (c.strength-s.ensures ∙ strength_of p), c.if-k-s.false))) (left _ _ _ (le-ltb c.loop-ask.left c.strength-k.result c.if-left-k.false) (halts _ _ (h z e) c.in_default.is)))))) })
 
-pub ops-overflow_cast-said : goal.ops-overflow_cast-said
-ops-overflow_cast-said t c = omega (arith, got_in c.op-r.ensures.0 c.in-Got.is)
-
-pub ops-loop-ask-smaller : goal.ops-loop-ask-smaller
-ops-loop-ask-smaller t c = omega (arith, got_in c.op-r.ensures.0 c.in-Got.is, c.requires, c.if-left-k.false, c.if-k-s.false, c.if-k-eq0.false, c.peek-kind.ensures, c.loop-ask.invariant)
-
 pub ops-loop-ask-preserved : goal.ops-loop-ask-preserved
 unfolding expr_w
-ops-loop-ask-preserved t c = (omega (arith, got_in c.op-r.ensures.0 c.in-Got.is, c.min-left.ensures, c.requires, c.if-left-k.false, c.if-k-s.false, c.if-k-eq0.false, c.peek-kind.ensures, c.loop-ask.invariant.0), λ a s pre p b r N l. c.loop-ask.invariant.1 a s pre p b r N (next (for_any _ _ (λ pre e. (c.op-r.ensures.1 (c.strength-k.result + 1) pre e).does (deeper a) (c.deeper.ensures.packs a s p)) (omega (arith, c.requires, c.loop-ask.invariant.0)) also l) (λ f h z e. ops_goes f a s c.loop-ask.left z c.peek-kind.ensures c.strength-k.ensures c.min-left.ensures (ne_eqb _ _ c.if-k-eq0.false) (le-ltb c.strength-k.result s (omega (arith, (c.strength-s.ensures ∙ strength_of p), c.if-k-s.false))) (le-ltb c.loop-ask.left c.strength-k.result c.if-left-k.false) (h.0 z e) c.in-Got.is (λ rs F. h.1 (z + length rs) (let g = F.counted in omega (arith, e, g))))))
-
-pub ops-overflow_cast-left : goal.ops-overflow_cast-left
-ops-overflow_cast-left t c = omega arith
+ops-loop-ask-preserved t c = (omega (arith, got_in c.op-r.ensures.0 c.in-Got.is, c.min-left.ensures, c.requires, c.if-left-k.false, c.if-k-s.false, c.if-k-eq0.false, c.peek-kind.ensures, c.loop-ask.invariant.0), λ a s pre p b r N l. c.loop-ask.invariant.1 a s pre p b r N (next (for_any _ _ (λ pre e. (c.op-r.ensures.1 (c.strength-k.result + 1) pre e).does (deeper a) (c.deeper.ensures.packs a s p)) (omega (arith, c.requires, c.loop-ask.invariant.0)) also l) (λ f h z e. ops_goes f a s c.loop-ask.left z c.peek-kind.ensures c.strength-k.ensures c.min-left.ensures (ne_eqb _ _ c.if-k-eq0.false) (le-ltb c.strength-k.result s (omega (arith, (c.strength-s.ensures ∙ strength_of p), c.if-k-s.false))) (le-ltb c.loop-ask.left c.strength-k.result c.if-left-k.false) (h.0 z e) c.in-Got.is (λ rs F. h.1 (z + length rs) (let g = F.filled.counted in omega (arith, e, g))))))
 
 pub ops-returns : goal.ops-returns
 unfolding expr_w
-ops-returns t c = (ended c.got.ensures (omega arith), λ s pre b. record { does = λ a p. c.loop-ask.invariant.1 a s pre p b _ _ (at_once (λ f z e. ops_walk f a s c.loop-ask.left z c.peek-kind.ensures c.strength-k.ensures (elim c.if-k-eq0.branch [ ops-then-k-eq0 w ↦ took _ _ _ (eqb-true _ _ w.if-k-eq0.true) (laid c.got.ensures refl (nothing)) | ops-else-k-eq0+then-k-s w ↦ left _ _ _ (ne_eqb _ _ w.if-k-eq0.false) (took _ _ _ (lt-ltb c.strength-k.result s (omega (arith, (c.strength-s.ensures ∙ strength_of p), w.if-k-s.true))) (laid c.got.ensures refl (nothing))) | ops-else-k-eq0+else-k-s+then-left-k w ↦ left _ _ _ (ne_eqb _ _ w.if-k-eq0.false) (left _ _ _ (le-ltb c.strength-k.result s (omega (arith, (c.strength-s.ensures ∙ strength_of p), w.if-k-s.false))) (took _ _ _ (lt-ltb c.loop-ask.left c.strength-k.result w.if-left-k.true) (laid c.got.ensures refl (nothing)))) ]))) })
+ops-returns t c = (ended c.got.ensures (omega arith), λ s pre b. record { does = λ a p. c.loop-ask.invariant.1 a s pre p b _ _ (at_once (λ f z e. ops_walk f a s c.loop-ask.left z c.peek-kind.ensures c.strength-k.ensures (elim c.if-k-eq0.branch [ ops-then-k-eq0 w ↦ took _ _ _ (eqb-true _ _ w.if-k-eq0.true) (laid c.got.ensures refl none_came) | ops-else-k-eq0+then-k-s w ↦ left _ _ _ (ne_eqb _ _ w.if-k-eq0.false) (took _ _ _ (lt-ltb c.strength-k.result s (omega (arith, (c.strength-s.ensures ∙ strength_of p), w.if-k-s.true))) (laid c.got.ensures refl none_came)) | ops-else-k-eq0+else-k-s+then-left-k w ↦ left _ _ _ (ne_eqb _ _ w.if-k-eq0.false) (left _ _ _ (le-ltb c.strength-k.result s (omega (arith, (c.strength-s.ensures ∙ strength_of p), w.if-k-s.false))) (took _ _ _ (lt-ltb c.loop-ask.left c.strength-k.result w.if-left-k.true) (laid c.got.ensures refl none_came))) ]))) })
 
 -- ── paren ──
-pub paren-sub-requires : goal.paren-sub-requires
-paren-sub-requires t c = omega arith
-
-pub paren-list-l-requires : goal.paren-list-l-requires
-paren-list-l-requires t c = omega arith
-
 pub paren-returns-in_default-l : goal.paren-returns-in_default-l
 unfolding expr_w both
 paren-returns-in_default-l t c = (passed_on c.list-l.ensures.0 c.in_default-l.is, record { does = λ a p. next (c.list-l.ensures.1.does a p) (λ f h. left _ _ _ (by_kind (λ z. both (leb 52 z) (leb z 53)) c.peek-kind.ensures (between_out 52 53 c.peek-kind.result (λ z. omega (arith, z)))) (halts _ _ h c.in_default-l.is)) })
-
-pub paren-overflow_cast-n_d : goal.paren-overflow_cast-n_d
-paren-overflow_cast-n_d t c = omega (arith, got_in c.list-l.ensures.0 c.in-Got.is, c.requires, c.peek-kind.ensures)
-
-pub paren-close-requires : goal.paren-close-requires
-paren-close-requires t c = omega (arith, got_in c.list-l.ensures.0 c.in-Got.is, c.requires, c.peek-kind.ensures)
 
 pub paren-returns-in-52 : goal.paren-returns-in-52
 unfolding expr_w both
@@ -952,41 +460,26 @@ paren-returns-in-52 t c = (further c.sub.ensures.0 (omega arith), record { does 
 
 pub paren-returns-in-Got : goal.paren-returns-in-Got
 unfolding expr_w both
-paren-returns-in-Got t c = (further c.close.ensures.0 (omega (arith, got_in c.list-l.ensures.0 c.in-Got.is, c.requires, c.peek-kind.ensures)), record { does = λ a p. next (c.list-l.ensures.1.does a p) (λ f h. left _ _ _ (by_kind (λ z. both (leb 52 z) (leb z 53)) c.peek-kind.ensures (between_out 52 53 c.peek-kind.result (λ z. omega (arith, z)))) (goes _ _ h c.in-Got.is (λ rs F. behind _ _ F (c.close.ensures.1 (length rs) F.counted)))) })
+paren-returns-in-Got t c = (further c.close.ensures.0 (omega (arith, got_in c.list-l.ensures.0 c.in-Got.is, c.requires, c.peek-kind.ensures)), record { does = λ a p. next (c.list-l.ensures.1.does a p) (λ f h. left _ _ _ (by_kind (λ z. both (leb 52 z) (leb z 53)) c.peek-kind.ensures (between_out 52 53 c.peek-kind.result (λ z. omega (arith, z)))) (goes _ _ h c.in-Got.is (λ rs F. behind _ _ F (c.close.ensures.1 (length rs) F.filled.counted)))) })
 
 -- ── parts ──
-pub parts-absent-m-requires : goal.parts-absent-m-requires
-parts-absent-m-requires t c = omega arith
-
-pub parts-from-f-requires : goal.parts-from-f-requires
-parts-from-f-requires t c = omega arith
-
 pub parts-returns-in_default-f : goal.parts-returns-in_default-f
 unfolding expr_w absences
 parts-returns-in_default-f t c = (passed_on c.from-f.ensures.0 c.in_default-f.is, record { does = λ a p. next (c.from-f.ensures.1.does a p) (λ f h. halts _ _ h c.in_default-f.is) })
-
-pub parts-clause-w-requires : goal.parts-clause-w-requires
-parts-clause-w-requires t c = omega (arith, got_in c.from-f.ensures.0 c.in-Got.is, c.requires, c.peek-kind.ensures)
 
 pub parts-returns-in_default-w : goal.parts-returns-in_default-w
 unfolding expr_w absences
 parts-returns-in_default-w t c = (passed_on c.clause-w.ensures.0 c.in_default-w.is, record { does = λ a p. next (c.from-f.ensures.1.does a p also c.clause-w.ensures.1.does a p) (λ f h. goes _ _ h.0 c.in-Got.is (λ rs F. halts _ _ h.1 c.in_default-w.is)) })
 
-pub parts-group-requires : goal.parts-group-requires
-parts-group-requires t c = omega (arith, got_in c.clause-w.ensures.0 c.in-Got-w.is, got_in c.from-f.ensures.0 c.in-Got.is, c.requires, c.peek-kind.ensures)
-
 pub parts-returns-in_default : goal.parts-returns-in_default
 unfolding expr_w absences
-parts-returns-in_default t c = (ended c.got.ensures (omega (arith, c.requires, c.absent-m.ensures.0, c.peek-kind.ensures)), record { does = λ a p. at_second (λ f. by_walk (no_parts (kinds_of c.args.lists.now) (texts_of c.args.lists.now) f c.args.at a (isn't c.peek-kind.ensures (λ e. c.in_default-1.rest.1 (inl e))) (isn't c.peek-kind.ensures (λ e. omega (arith, e))) (isn't c.peek-kind.ensures (λ e. omega (arith, e))) (isn't c.peek-kind.ensures (λ e. c.in_default-1.rest.1 (inr e)))) (laid c.got.ensures refl c.absent-m.ensures.1)) })
+parts-returns-in_default t c = (ended c.got.ensures (omega (arith, c.requires, c.absent.ensures.0, c.peek-kind.ensures)), record { does = λ a p. at_second (λ f. by_walk (no_parts (kinds_of c.args.lists.now) (texts_of c.args.lists.now) f c.args.at a (isn't c.peek-kind.ensures (λ e. c.in_default-1.rest.1 (inl e))) (isn't c.peek-kind.ensures (λ e. omega (arith, e))) (isn't c.peek-kind.ensures (λ e. omega (arith, e))) (isn't c.peek-kind.ensures (λ e. c.in_default-1.rest.1 (inr e)))) (laid c.got.ensures refl c.absent.ensures.1)) })
 
 pub parts-returns-in-Got-w : goal.parts-returns-in-Got-w
 unfolding expr_w absences
 parts-returns-in-Got-w t c = (further c.group.ensures.0 (omega (arith, got_in c.clause-w.ensures.0 c.in-Got-w.is, got_in c.from-f.ensures.0 c.in-Got.is, c.requires, c.peek-kind.ensures)), record { does = λ a p. next (c.from-f.ensures.1.does a p also c.clause-w.ensures.1.does a p also c.group.ensures.1.does a p) (λ f h. goes _ _ h.0 c.in-Got.is (λ rs F. goes _ _ h.1.0 c.in-Got-w.is (λ qs G. behind _ _ (F then G) h.1.1))) })
 
 -- ── query ──
-pub query-body-b-requires : goal.query-body-b-requires
-query-body-b-requires t c = omega arith
-
 pub query-returns-in_default : goal.query-returns-in_default
 unfolding expr_w
 query-returns-in_default t c = (passed_on c.body-b.ensures.0 c.in_default.is, record { does = λ a p. next (c.body-b.ensures.2.does a p) (λ f h. halts _ _ h c.in_default.is) })
@@ -995,141 +488,60 @@ pub query-returns-in_default-t : goal.query-returns-in_default-t
 unfolding expr_w
 query-returns-in_default-t t c = (passed_on c.tail-t.ensures.0 c.in_default-t.is, record { does = λ a p. next (c.body-b.ensures.2.does a p also c.tail-t.ensures.1.does _ (c.opened.ensures.opens _ p (omega (arith, queries_of_lem p, opens_in c.body-b.ensures.1 c.in-Got.is)))) (λ f h. goes _ _ h.0 c.in-Got.is (λ rs F. halts _ _ h.1 c.in_default-t.is)) })
 
-pub query-overflow_sub-d : goal.query-overflow_sub-d
-query-overflow_sub-d t c = omega (arith, got_in c.tail-t.ensures.0 c.in-Got-t.is, got_in c.body-b.ensures.0 c.in-Got.is, opens_in c.body-b.ensures.1 c.in-Got.is, c.requires)
-
-pub query-overflow_add-d : goal.query-overflow_add-d
-query-overflow_add-d t c = omega (arith, got_in c.tail-t.ensures.0 c.in-Got-t.is, got_in c.body-b.ensures.0 c.in-Got.is, opens_in c.body-b.ensures.1 c.in-Got.is, c.requires)
-
-pub query-emit-m-requires : goal.query-emit-m-requires
-query-emit-m-requires t c = omega (arith, got_in c.tail-t.ensures.0 c.in-Got-t.is, got_in c.body-b.ensures.0 c.in-Got.is, opens_in c.body-b.ensures.1 c.in-Got.is, c.requires)
-
 pub query-returns : goal.query-returns
 unfolding expr_w
-query-returns t c = (ended c.got.ensures (omega (arith, got_in c.tail-t.ensures.0 c.in-Got-t.is, got_in c.body-b.ensures.0 c.in-Got.is, opens_in c.body-b.ensures.1 c.in-Got.is, c.requires, c.emit-m.ensures.0)), record { does = λ a p. next (c.body-b.ensures.2.does a p also c.tail-t.ensures.1.does _ (c.opened.ensures.opens _ p (omega (arith, queries_of_lem p, opens_in c.body-b.ensures.1 c.in-Got.is)))) (λ f h. goes _ _ h.0 c.in-Got.is (λ rs F. goes _ _ h.1 c.in-Got-t.is (λ qs G. laid c.got.ensures refl (topped (F then G) c.emit-m.ensures.1)))) })
+query-returns t c = (ended c.got.ensures (omega (arith, got_in c.tail-t.ensures.0 c.in-Got-t.is, got_in c.body-b.ensures.0 c.in-Got.is, opens_in c.body-b.ensures.1 c.in-Got.is, c.requires, c.emit.ensures.0)), record { does = λ a p. next (c.body-b.ensures.2.does a p also c.tail-t.ensures.1.does _ (c.opened.ensures.opens _ p (omega (arith, queries_of_lem p, opens_in c.body-b.ensures.1 c.in-Got.is)))) (λ f h. goes _ _ h.0 c.in-Got.is (λ rs F. goes _ _ h.1 c.in-Got-t.is (λ qs G. laid c.got.ensures refl (topped (F then G) c.emit.ensures.1)))) })
 
 -- ── range ──
-pub range-expr-low-requires : goal.range-expr-low-requires
-range-expr-low-requires t c = omega arith
-
 pub range-returns-in_default : goal.range-returns-in_default
 unfolding expr_w
 range-returns-in_default t c = (passed_on c.expr-low.ensures.0 c.in_default.is, λ s pre b. record { does = λ a p. next ((c.expr-low.ensures.1 s).does a p) (λ f h. halts _ _ h c.in_default.is) })
-
-pub range-after-high-requires : goal.range-after-high-requires
-range-after-high-requires t c = omega (arith, got_in c.expr-low.ensures.0 c.in-Got.is, c.requires)
 
 pub range-returns-in_default-high : goal.range-returns-in_default-high
 unfolding expr_w
 range-returns-in_default-high t c = (passed_on c.after-high.ensures.0 c.in_default-high.is, λ s pre b. record { does = λ a p. next ((c.expr-low.ensures.1 s).does a p also (c.after-high.ensures.1 s).does a p) (λ f h. goes _ _ h.0 c.in-Got.is (λ rs F. halts _ _ h.1 c.in_default-high.is)) })
 
-pub range-overflow_sub-e : goal.range-overflow_sub-e
-range-overflow_sub-e t c = omega (arith, got_in c.after-high.ensures.0 c.in-Got-high.is, got_in c.expr-low.ensures.0 c.in-Got.is, c.requires)
-
-pub range-overflow_add-e : goal.range-overflow_add-e
-range-overflow_add-e t c = omega (arith, got_in c.after-high.ensures.0 c.in-Got-high.is, got_in c.expr-low.ensures.0 c.in-Got.is, c.requires)
-
-pub range-emit-m-requires : goal.range-emit-m-requires
-range-emit-m-requires t c = omega (arith, got_in c.after-high.ensures.0 c.in-Got-high.is, got_in c.expr-low.ensures.0 c.in-Got.is, c.requires)
-
 pub range-returns : goal.range-returns
 unfolding expr_w
-range-returns t c = (ended c.got.ensures (omega (arith, got_in c.after-high.ensures.0 c.in-Got-high.is, got_in c.expr-low.ensures.0 c.in-Got.is, c.requires, c.emit-m.ensures.0)), λ s pre b. record { does = λ a p. next ((c.expr-low.ensures.1 s).does a p also (c.after-high.ensures.1 s).does a p) (λ f h. goes _ _ h.0 c.in-Got.is (λ rs F. goes _ _ h.1 c.in-Got-high.is (λ qs G. laid c.got.ensures refl (capped _ pre b (F then G) c.emit-m.ensures.1)))) })
+range-returns t c = (ended c.got.ensures (omega (arith, got_in c.after-high.ensures.0 c.in-Got-high.is, got_in c.expr-low.ensures.0 c.in-Got.is, c.requires, c.emit.ensures.0)), λ s pre b. record { does = λ a p. next ((c.expr-low.ensures.1 s).does a p also (c.after-high.ensures.1 s).does a p) (λ f h. goes _ _ h.0 c.in-Got.is (λ rs F. goes _ _ h.1 c.in-Got-high.is (λ qs G. laid c.got.ensures refl (capped _ pre b (F then G) c.emit.ensures.1)))) })
 
 -- ── row ──
-pub row-wrong-requires : goal.row-wrong-requires
-row-wrong-requires t c = omega arith
-
 pub row-returns-then-lp-ne-LP : goal.row-returns-then-lp-ne-LP
 unfolding expr_w not_b
 row-returns-then-lp-ne-LP t c = (refused c.wrong.ensures.0 (omega arith), record { does = λ a p. at_once (λ f. left _ _ _ (isn't c.peek-lp.ensures c.if-lp-ne-LP.true) (misfit c.peek-lp.ensures c.wrong.ensures.1)) })
-
-pub row-overflow_add-at : goal.row-overflow_add-at
-row-overflow_add-at t c = omega arith
-
-pub row-list-r-requires : goal.row-list-r-requires
-row-list-r-requires t c = omega arith
 
 pub row-returns-in_default : goal.row-returns-in_default
 unfolding expr_w not_b
 row-returns-in_default t c = (passed_on c.list-r.ensures.0 c.in_default.is, record { does = λ a p. next (c.list-r.ensures.1.does a p) (λ f h. took _ _ _ (is c.peek-lp.ensures c.if-lp-ne-LP.false) (halts _ _ h c.in_default.is)) })
 
-pub row-wrong-requires-then-rp-ne-RP : goal.row-wrong-requires-then-rp-ne-RP
-row-wrong-requires-then-rp-ne-RP t c = omega (arith, got_in c.list-r.ensures.0 c.in-Got.is, c.requires, c.if-rp-ne-RP.true, c.peek-rp.ensures, c.if-lp-ne-LP.false, c.peek-lp.ensures)
-
 pub row-returns-then-rp-ne-RP : goal.row-returns-then-rp-ne-RP
 unfolding expr_w not_b
 row-returns-then-rp-ne-RP t c = (refused c.wrong-then-rp-ne-RP.ensures.0 (omega (arith, got_in c.list-r.ensures.0 c.in-Got.is, c.requires, c.if-rp-ne-RP.true, c.peek-rp.ensures, c.if-lp-ne-LP.false, c.peek-lp.ensures)), record { does = λ a p. next (c.list-r.ensures.1.does a p) (λ f h. took _ _ _ (is c.peek-lp.ensures c.if-lp-ne-LP.false) (goes _ _ h c.in-Got.is (λ rs F. left _ _ _ (isn't c.peek-rp.ensures c.if-rp-ne-RP.true) (misfit c.peek-rp.ensures c.wrong-then-rp-ne-RP.ensures.1)))) })
-
-pub row-overflow_cast-n : goal.row-overflow_cast-n
-row-overflow_cast-n t c = omega (arith, got_in c.list-r.ensures.0 c.in-Got.is, c.requires, c.if-rp-ne-RP.false, c.peek-rp.ensures, c.if-lp-ne-LP.false, c.peek-lp.ensures)
-
-pub row-overflow_cast-result : goal.row-overflow_cast-result
-row-overflow_cast-result t c = omega (arith, got_in c.list-r.ensures.0 c.in-Got.is, c.requires, c.if-n-width.true, c.if-width-gt0.true, c.if-rp-ne-RP.false, c.peek-rp.ensures, c.if-lp-ne-LP.false, c.peek-lp.ensures)
 
 pub row-returns-then-n-width : goal.row-returns-then-n-width
 unfolding expr_w not_b
 row-returns-then-n-width t c = (record { holds = omega (arith, got_in c.list-r.ensures.0 c.in-Got.is) }, record { does = λ a p. next (c.list-r.ensures.1.does a p) (λ f h. took _ _ _ (is c.peek-lp.ensures c.if-lp-ne-LP.false) (goes _ _ h c.in-Got.is (λ rs F. took _ _ _ (is c.peek-rp.ensures c.if-rp-ne-RP.false) (took _ _ _ (both_i _ _ (lt-ltb 0 _ c.if-width-gt0.true) (ap not_b (ne_eqb _ _ c.if-n-width.true))) (halted refl refl))))) })
 
-pub row-overflow_sub-d : goal.row-overflow_sub-d
-row-overflow_sub-d t c = omega (arith, got_in c.list-r.ensures.0 c.in-Got.is, c.requires, c.if-rp-ne-RP.false, c.peek-rp.ensures, c.if-lp-ne-LP.false, c.peek-lp.ensures)
-
-pub row-overflow_add-d : goal.row-overflow_add-d
-row-overflow_add-d t c = omega (arith, got_in c.list-r.ensures.0 c.in-Got.is, c.requires, c.if-rp-ne-RP.false, c.peek-rp.ensures, c.if-lp-ne-LP.false, c.peek-lp.ensures)
-
-pub row-emit-m-requires : goal.row-emit-m-requires
-row-emit-m-requires t c = omega (arith, got_in c.list-r.ensures.0 c.in-Got.is, c.requires, c.if-rp-ne-RP.false, c.peek-rp.ensures, c.if-lp-ne-LP.false, c.peek-lp.ensures)
-
-pub row-overflow_add-d-2 : goal.row-overflow_add-d-2
-row-overflow_add-d-2 t c = omega (arith, got_in c.list-r.ensures.0 c.in-Got.is, c.requires, c.emit-m.ensures.0, c.if-rp-ne-RP.false, c.peek-rp.ensures, c.if-lp-ne-LP.false, c.peek-lp.ensures)
-
-pub row-counted-requires : goal.row-counted-requires
-row-counted-requires t c = omega (arith, got_in c.list-r.ensures.0 c.in-Got.is, c.requires, c.emit-m.ensures.0, c.if-rp-ne-RP.false, c.peek-rp.ensures, c.if-lp-ne-LP.false, c.peek-lp.ensures)
-
 pub row-returns : goal.row-returns
 unfolding expr_w not_b
-row-returns t c = (ended c.counted.ensures (omega (arith, got_in c.list-r.ensures.0 c.in-Got.is, c.requires, c.emit-m.ensures.0, c.if-rp-ne-RP.false, c.peek-rp.ensures, c.if-lp-ne-LP.false, c.peek-lp.ensures)), record { does = λ a p. next (c.list-r.ensures.1.does a p) (λ f h. took _ _ _ (is c.peek-lp.ensures c.if-lp-ne-LP.false) (goes _ _ h c.in-Got.is (λ rs F. took _ _ _ (is c.peek-rp.ensures c.if-rp-ne-RP.false) (left _ _ _ (elim c.if-width-gt0.branch [ row-then-width-gt0+else-n-width w ↦ no_right _ _ (ap not_b (eqb-true _ _ w.if-n-width.false)) | row-else-width-gt0 w ↦ no_left _ _ (le-ltb 0 _ w.if-width-gt0.false) ]) (laid c.counted.ensures refl (topped F c.emit-m.ensures.1)))))) })
+row-returns t c = (ended c.counted.ensures (omega (arith, got_in c.list-r.ensures.0 c.in-Got.is, c.requires, c.emit.ensures.0, c.if-rp-ne-RP.false, c.peek-rp.ensures, c.if-lp-ne-LP.false, c.peek-lp.ensures)), record { does = λ a p. next (c.list-r.ensures.1.does a p) (λ f h. took _ _ _ (is c.peek-lp.ensures c.if-lp-ne-LP.false) (goes _ _ h c.in-Got.is (λ rs F. took _ _ _ (is c.peek-rp.ensures c.if-rp-ne-RP.false) (left _ _ _ (elim c.if-width-gt0.branch [ row-then-width-gt0+else-n-width w ↦ no_right _ _ (ap not_b (eqb-true _ _ w.if-n-width.false)) | row-else-width-gt0 w ↦ no_left _ _ (le-ltb 0 _ w.if-width-gt0.false) ]) (laid c.counted.ensures refl (topped F c.emit.ensures.1)))))) })
 
 -- ── rows ──
 pub rows-loop-n_d-init : goal.rows-loop-n_d-init
 unfolding expr_w
 rows-loop-n_d-init t c = (omega arith, λ a p. loop_start)
 
-pub rows-row-r-requires : goal.rows-row-r-requires
-rows-row-r-requires t c = omega arith
-
 pub rows-returns-in_default : goal.rows-returns-in_default
 unfolding expr_w
-rows-returns-in_default t c = (passed_on c.row-r.ensures.0 c.in_default.is, record { does = λ a p. so ((c.loop-n_d.invariant.1 a p).on _ [] (next (c.row-r.ensures.1.does a p) (λ f h. halts _ _ h c.in_default.is))) (λ f h. halts _ _ h c.in_default.is) })
-
-pub rows-overflow_cast-width : goal.rows-overflow_cast-width
-rows-overflow_cast-width t c = omega (arith, got_in c.row-r.ensures.0 c.in-Got.is, c.requires, c.loop-n_d.invariant)
-
-pub rows-overflow_add-rows : goal.rows-overflow_add-rows
-rows-overflow_add-rows t c = omega (arith, got_in c.row-r.ensures.0 c.in-Got.is, c.requires, c.loop-n_d.invariant)
-
-pub rows-overflow_add-at : goal.rows-overflow_add-at
-rows-overflow_add-at t c = omega (arith, got_in c.row-r.ensures.0 c.in-Got.is, c.requires, c.if-kind-ne-COMMA.false, c.peek-kind.ensures, c.loop-n_d.invariant)
-
-pub rows-loop-n_d-smaller : goal.rows-loop-n_d-smaller
-rows-loop-n_d-smaller t c = omega (arith, got_in c.row-r.ensures.0 c.in-Got.is, c.requires, c.if-kind-ne-COMMA.false, c.peek-kind.ensures, c.loop-n_d.invariant)
+rows-returns-in_default t c = (passed_on c.row-r.ensures.0 c.in_default.is, record { does = λ a p. so ((c.loop-n_d.invariant.1 a p).on _ c.args.table.now (next (c.row-r.ensures.1.does a p) (λ f h. halts _ _ h c.in_default.is))) (λ f h. halts _ _ h c.in_default.is) })
 
 pub rows-loop-n_d-preserved : goal.rows-loop-n_d-preserved
 unfolding expr_w
 rows-loop-n_d-preserved t c = (omega (arith, got_in c.row-r.ensures.0 c.in-Got.is, c.requires, c.if-kind-ne-COMMA.false, c.peek-kind.ensures, c.loop-n_d.invariant), λ a p. record { on = λ r N' l. (c.loop-n_d.invariant.1 a p).on r N' (next (c.row-r.ensures.1.does a p also l) (λ f h. goes _ _ h.0 c.in-Got.is (λ rs F. took _ _ _ (is c.peek-kind.ensures c.if-kind-ne-COMMA.false) (behind _ _ F h.1)))) })
 
-pub rows-overflow_sub-made : goal.rows-overflow_sub-made
-rows-overflow_sub-made t c = omega (arith, got_in c.row-r.ensures.0 c.in-Got.is, c.requires, c.if-kind-ne-COMMA.true, c.peek-kind.ensures, c.loop-n_d.invariant)
-
-pub rows-overflow_add-made : goal.rows-overflow_add-made
-rows-overflow_add-made t c = omega (arith, got_in c.row-r.ensures.0 c.in-Got.is, c.requires, c.if-kind-ne-COMMA.true, c.peek-kind.ensures, c.loop-n_d.invariant)
-
-pub rows-emit-m-requires : goal.rows-emit-m-requires
-rows-emit-m-requires t c = omega (arith, got_in c.row-r.ensures.0 c.in-Got.is, c.requires, c.if-kind-ne-COMMA.true, c.peek-kind.ensures, c.loop-n_d.invariant)
-
 pub rows-returns : goal.rows-returns
 unfolding expr_w
-rows-returns t c = (ended c.got.ensures (omega (arith, got_in c.row-r.ensures.0 c.in-Got.is, c.requires, c.emit-m.ensures.0, c.if-kind-ne-COMMA.true, c.peek-kind.ensures, c.loop-n_d.invariant)), record { does = λ a p. so ((c.loop-n_d.invariant.1 a p).on (got_of 0 (c.loop-n_d.rows + 1) _ _) _ (next (c.row-r.ensures.1.does a p) (λ f h. goes _ _ h c.in-Got.is (λ rs F. left _ _ _ (isn't c.peek-kind.ensures c.if-kind-ne-COMMA.true) (laid refl refl F))))) (λ f h. goes _ _ h refl (λ rs F. laid c.got.ensures refl (topped F c.emit-m.ensures.1))) })
+rows-returns t c = (ended c.got.ensures (omega (arith, got_in c.row-r.ensures.0 c.in-Got.is, c.requires, c.emit.ensures.0, c.if-kind-ne-COMMA.true, c.peek-kind.ensures, c.loop-n_d.invariant)), record { does = λ a p. so ((c.loop-n_d.invariant.1 a p).on (got_of 0 (c.loop-n_d.rows + 1) _) _ (next (c.row-r.ensures.1.does a p) (λ f h. goes _ _ h c.in-Got.is (λ rs F. left _ _ _ (isn't c.peek-kind.ensures c.if-kind-ne-COMMA.true) (laid refl refl F))))) (λ f h. goes _ _ h refl (λ rs F. laid c.got.ensures refl (topped F c.emit.ensures.1))) })
 
 -- ── select ──
 pub select-overflow_add-at : goal.select-overflow_add-at
@@ -1142,214 +554,88 @@ pub select-returns-in_default-l : goal.select-returns-in_default-l
 unfolding expr_w
 select-returns-in_default-l t c = (passed_on c.cols-l.ensures.0 c.in_default-l.is, record { does = λ a p. next (next (c.cols-l.ensures.1.does a p) (λ f h. halts _ _ h c.in_default-l.is)) (λ f h. by_walk (select_walk (kinds_of c.args.lists.now) (texts_of c.args.lists.now) f c.args.at a c.match-kind.detail c.if-detail-gt0.word (elim c.match-kind.branch [ select-in-54 w ↦ inl (is c.peek-kind.ensures w.in-54.is, w.detail-is) | select-in-55 w ↦ inr (inl (differs _ c.peek-kind.ensures w.in-55.is refl, is c.peek-kind.ensures w.in-55.is, w.detail-is)) | select-in_default w ↦ inr (inr (isn't c.peek-kind.ensures w.in_default.in_default-own.rest.0.1, isn't c.peek-kind.ensures w.in_default.in_default-own.rest.1, w.detail-is)) ]) (elim c.if-detail-gt0.branch [ select-then-detail-gt0 w ↦ inl (w.if-detail-gt0.true, w.word-is) | select-else-detail-gt0 w ↦ inr (w.if-detail-gt0.false, w.word-is) ])) h) })
 
-pub select-overflow_cast-n_c : goal.select-overflow_cast-n_c
-select-overflow_cast-n_c t c = omega (arith, got_in c.cols-l.ensures.0 c.in-Got.is, c.requires, c.peek-kind.ensures)
-
-pub select-overflow_sub-c : goal.select-overflow_sub-c
-select-overflow_sub-c t c = omega (arith, got_in c.cols-l.ensures.0 c.in-Got.is, c.requires, c.peek-kind.ensures)
-
-pub select-overflow_add-c : goal.select-overflow_add-c
-select-overflow_add-c t c = omega (arith, got_in c.cols-l.ensures.0 c.in-Got.is, c.requires, c.peek-kind.ensures)
-
-pub select-emit-listed-requires : goal.select-emit-listed-requires
-select-emit-listed-requires t c = omega (arith, got_in c.cols-l.ensures.0 c.in-Got.is, c.requires, c.peek-kind.ensures)
-
-pub select-parts-f-requires : goal.select-parts-f-requires
-select-parts-f-requires t c = omega (arith, got_in c.cols-l.ensures.0 c.in-Got.is, c.emit-listed.ensures.0, c.requires, c.peek-kind.ensures)
-
 pub select-returns-in_default-f : goal.select-returns-in_default-f
 unfolding expr_w
 select-returns-in_default-f t c = (passed_on c.parts-f.ensures.0 c.in_default-f.is, record { does = λ a p. next (next (c.cols-l.ensures.1.does a p also c.parts-f.ensures.1.does a p) (λ f h. goes _ _ h.0 c.in-Got.is (λ rs F. halts _ _ h.1 c.in_default-f.is))) (λ f h. by_walk (select_walk (kinds_of c.args.lists.now) (texts_of c.args.lists.now) f c.args.at a c.match-kind.detail c.if-detail-gt0.word (elim c.match-kind.branch [ select-in-54 w ↦ inl (is c.peek-kind.ensures w.in-54.is, w.detail-is) | select-in-55 w ↦ inr (inl (differs _ c.peek-kind.ensures w.in-55.is refl, is c.peek-kind.ensures w.in-55.is, w.detail-is)) | select-in_default w ↦ inr (inr (isn't c.peek-kind.ensures w.in_default.in_default-own.rest.0.1, isn't c.peek-kind.ensures w.in_default.in_default-own.rest.1, w.detail-is)) ]) (elim c.if-detail-gt0.branch [ select-then-detail-gt0 w ↦ inl (w.if-detail-gt0.true, w.word-is) | select-else-detail-gt0 w ↦ inr (w.if-detail-gt0.false, w.word-is) ])) h) })
 
-pub select-overflow_sub-d : goal.select-overflow_sub-d
-select-overflow_sub-d t c = omega (arith, got_in c.parts-f.ensures.0 c.in-Got-f.is, c.emit-listed.ensures.0, got_in c.cols-l.ensures.0 c.in-Got.is, c.requires, c.peek-kind.ensures)
-
-pub select-overflow_add-d : goal.select-overflow_add-d
-select-overflow_add-d t c = omega (arith, got_in c.parts-f.ensures.0 c.in-Got-f.is, c.emit-listed.ensures.0, got_in c.cols-l.ensures.0 c.in-Got.is, c.requires, c.peek-kind.ensures)
-
-pub select-emit-m-requires : goal.select-emit-m-requires
-select-emit-m-requires t c = omega (arith, got_in c.parts-f.ensures.0 c.in-Got-f.is, c.emit-listed.ensures.0, got_in c.cols-l.ensures.0 c.in-Got.is, c.requires, c.peek-kind.ensures)
-
 pub select-returns : goal.select-returns
 unfolding expr_w
-select-returns t c = (ended c.got.ensures (omega (arith, got_in c.parts-f.ensures.0 c.in-Got-f.is, c.emit-m.ensures.0, c.emit-listed.ensures.0, got_in c.cols-l.ensures.0 c.in-Got.is, c.requires, c.peek-kind.ensures)), record { does = λ a p. next (next (c.cols-l.ensures.1.does a p also c.parts-f.ensures.1.does a p) (λ f h. goes _ _ h.0 c.in-Got.is (λ rs F. goes _ _ h.1 c.in-Got-f.is (λ qs G. laid c.got.ensures refl (topped (topped F c.emit-listed.ensures.1 then G) c.emit-m.ensures.1))))) (λ f h. by_walk (select_walk (kinds_of c.args.lists.now) (texts_of c.args.lists.now) f c.args.at a c.match-kind.detail c.if-detail-gt0.word (elim c.match-kind.branch [ select-in-54 w ↦ inl (is c.peek-kind.ensures w.in-54.is, w.detail-is) | select-in-55 w ↦ inr (inl (differs _ c.peek-kind.ensures w.in-55.is refl, is c.peek-kind.ensures w.in-55.is, w.detail-is)) | select-in_default w ↦ inr (inr (isn't c.peek-kind.ensures w.in_default.in_default-own.rest.0.1, isn't c.peek-kind.ensures w.in_default.in_default-own.rest.1, w.detail-is)) ]) (elim c.if-detail-gt0.branch [ select-then-detail-gt0 w ↦ inl (w.if-detail-gt0.true, w.word-is) | select-else-detail-gt0 w ↦ inr (w.if-detail-gt0.false, w.word-is) ])) h) })
+select-returns t c = (ended c.got.ensures (omega (arith, got_in c.parts-f.ensures.0 c.in-Got-f.is, c.emit.ensures.0, c.emit-2.ensures.0, got_in c.cols-l.ensures.0 c.in-Got.is, c.requires, c.peek-kind.ensures)), record { does = λ a p. next (next (c.cols-l.ensures.1.does a p also c.parts-f.ensures.1.does a p) (λ f h. goes _ _ h.0 c.in-Got.is (λ rs F. goes _ _ h.1 c.in-Got-f.is (λ qs G. laid c.got.ensures refl (topped (topped F c.emit.ensures.1 then G) c.emit-2.ensures.1))))) (λ f h. by_walk (select_walk (kinds_of c.args.lists.now) (texts_of c.args.lists.now) f c.args.at a c.match-kind.detail c.if-detail-gt0.word (elim c.match-kind.branch [ select-in-54 w ↦ inl (is c.peek-kind.ensures w.in-54.is, w.detail-is) | select-in-55 w ↦ inr (inl (differs _ c.peek-kind.ensures w.in-55.is refl, is c.peek-kind.ensures w.in-55.is, w.detail-is)) | select-in_default w ↦ inr (inr (isn't c.peek-kind.ensures w.in_default.in_default-own.rest.0.1, isn't c.peek-kind.ensures w.in_default.in_default-own.rest.1, w.detail-is)) ]) (elim c.if-detail-gt0.branch [ select-then-detail-gt0 w ↦ inl (w.if-detail-gt0.true, w.word-is) | select-else-detail-gt0 w ↦ inr (w.if-detail-gt0.false, w.word-is) ])) h) })
 
 -- ── sign ──
-pub sign-wrong-requires : goal.sign-wrong-requires
-sign-wrong-requires t c = omega arith
-
 pub sign-returns-then-strength-gt-NOT_STANDS : goal.sign-returns-then-strength-gt-NOT_STANDS
 unfolding expr_w
 sign-returns-then-strength-gt-NOT_STANDS t c = (refused c.wrong.ensures.0 (omega arith), λ s. record { does = λ a p. at_once (λ f. prefix_walk f a s c.requires.3 c.prefix-p.ensures (took _ _ _ (both_i _ _ (eqb-true _ _ c.if-kind-eq-NOT.true) (lt-ltb 10 s (omega (arith, strength_of p, c.strength.ensures, c.if-strength-gt-NOT_STANDS.true)))) (said c.wrong.ensures.1 refl))) })
 
-pub sign-overflow_add-at : goal.sign-overflow_add-at
-sign-overflow_add-at t c = omega arith
-
 pub sign-deeper-requires : goal.sign-deeper-requires
 sign-deeper-requires t c = let s : c.prefix-p.result ≤ 11 = rw c.prefix-p.ensures (prefix_small _) in omega (arith)
-
-pub sign-expr-r-requires : goal.sign-expr-r-requires
-sign-expr-r-requires t c = omega arith
 
 pub sign-returns-in_default : goal.sign-returns-in_default
 unfolding expr_w
 sign-returns-in_default t c = (passed_on c.expr-r.ensures.0 c.in_default.is, λ s. record { does = λ a p. next ((c.expr-r.ensures.1 c.prefix-p.result).does (deeper a) (c.deeper.ensures.packs a s p)) (λ f h. prefix_walk f a s c.requires.3 c.prefix-p.ensures (left _ _ _ (elim c.if-kind-eq-NOT.branch [ sign-then-kind-eq-NOT+else-strength-gt-NOT_STANDS w ↦ no_right _ _ (le-ltb 10 s (omega (arith, strength_of p, w.strength.ensures, w.if-strength-gt-NOT_STANDS.false))) | sign-else-kind-eq-NOT w ↦ no_left _ _ (ne_eqb _ _ w.if-kind-eq-NOT.false) ]) (halts _ _ h c.in_default.is))) })
 
-pub sign-overflow_sub-d : goal.sign-overflow_sub-d
-sign-overflow_sub-d t c = omega (arith, got_in c.expr-r.ensures.0 c.in-Got.is, c.requires)
-
-pub sign-overflow_add-d : goal.sign-overflow_add-d
-sign-overflow_add-d t c = omega (arith, got_in c.expr-r.ensures.0 c.in-Got.is, c.requires)
-
-pub sign-emit-m-requires : goal.sign-emit-m-requires
-sign-emit-m-requires t c = omega (arith, got_in c.expr-r.ensures.0 c.in-Got.is, c.requires)
-
 pub sign-overflow_cast-min : goal.sign-overflow_cast-min
 sign-overflow_cast-min t c = let s : c.prefix-p.result ≤ 11 = rw c.prefix-p.ensures (prefix_small _) in omega (arith, c.min.ensures, got_in c.expr-r.ensures.0 c.in-Got.is)
 
-pub sign-overflow_cast-said : goal.sign-overflow_cast-said
-sign-overflow_cast-said t c = omega (arith, got_in c.expr-r.ensures.0 c.in-Got.is)
-
 pub sign-returns : goal.sign-returns
 unfolding expr_w
-sign-returns t c = (let s : c.prefix-p.result ≤ 11 = rw c.prefix-p.ensures (prefix_small _) in ended c.got.ensures (omega (arith, c.min.ensures, got_in c.expr-r.ensures.0 c.in-Got.is, c.emit-m.ensures.0, c.requires)), λ s. record { does = λ a p. next ((c.expr-r.ensures.1 c.prefix-p.result).does (deeper a) (c.deeper.ensures.packs a s p)) (λ f h. prefix_walk f a s c.requires.3 c.prefix-p.ensures (left _ _ _ (elim c.if-kind-eq-NOT.branch [ sign-then-kind-eq-NOT+else-strength-gt-NOT_STANDS w ↦ no_right _ _ (le-ltb 10 s (omega (arith, strength_of p, w.strength.ensures, w.if-strength-gt-NOT_STANDS.false))) | sign-else-kind-eq-NOT w ↦ no_left _ _ (ne_eqb _ _ w.if-kind-eq-NOT.false) ]) (goes _ _ h c.in-Got.is (λ rs F. laid_as c.got.ensures c.min.ensures refl (topped F c.emit-m.ensures.1))))) })
+sign-returns t c = (let s : c.prefix-p.result ≤ 11 = rw c.prefix-p.ensures (prefix_small _) in ended c.got.ensures (omega (arith, c.min.ensures, got_in c.expr-r.ensures.0 c.in-Got.is, c.emit.ensures.0, c.requires)), λ s. record { does = λ a p. next ((c.expr-r.ensures.1 c.prefix-p.result).does (deeper a) (c.deeper.ensures.packs a s p)) (λ f h. prefix_walk f a s c.requires.3 c.prefix-p.ensures (left _ _ _ (elim c.if-kind-eq-NOT.branch [ sign-then-kind-eq-NOT+else-strength-gt-NOT_STANDS w ↦ no_right _ _ (le-ltb 10 s (omega (arith, strength_of p, w.strength.ensures, w.if-strength-gt-NOT_STANDS.false))) | sign-else-kind-eq-NOT w ↦ no_left _ _ (ne_eqb _ _ w.if-kind-eq-NOT.false) ]) (goes _ _ h c.in-Got.is (λ rs F. laid_as c.got.ensures c.min.ensures refl (topped F c.emit.ensures.1))))) })
 
 -- ── sort ──
-pub sort-wrong-requires : goal.sort-wrong-requires
-sort-wrong-requires t c = omega arith
-
 pub sort-returns-then-by-ne-BY : goal.sort-returns-then-by-ne-BY
 unfolding expr_w
 sort-returns-then-by-ne-BY t c = (refused c.wrong.ensures.0 (omega arith), record { does = λ a p. at_once (λ f. left _ _ _ (isn't c.peek-by.ensures c.if-by-ne-BY.true) (misfit c.peek-by.ensures c.wrong.ensures.1)) })
-
-pub sort-overflow_add-at : goal.sort-overflow_add-at
-sort-overflow_add-at t c = omega arith
 
 pub sort-loop-d-init : goal.sort-loop-d-init
 unfolding expr_w
 sort-loop-d-init t c = (omega arith, λ a p. loop_start)
 
-pub sort-expr-r-requires : goal.sort-expr-r-requires
-sort-expr-r-requires t c = omega arith
-
 pub sort-returns-in_default : goal.sort-returns-in_default
 unfolding expr_w
-sort-returns-in_default t c = (passed_on c.expr-r.ensures.0 c.in_default.is, record { does = λ a p. next ((c.loop-d.invariant.1 a p).on _ [] (next ((c.expr-r.ensures.1 1).does a p) (λ f h. halts _ _ h c.in_default.is))) (λ f h. took _ _ _ (is c.peek-by.ensures c.if-by-ne-BY.false) (halts _ _ h c.in_default.is)) })
-
-pub sort-way-w-requires : goal.sort-way-w-requires
-sort-way-w-requires t c = omega (arith, got_in c.expr-r.ensures.0 c.in-Got.is, c.requires, c.loop-d.invariant, c.if-by-ne-BY.false, c.peek-by.ensures)
+sort-returns-in_default t c = (passed_on c.expr-r.ensures.0 c.in_default.is, record { does = λ a p. next ((c.loop-d.invariant.1 a p).on _ c.args.table.now (next ((c.expr-r.ensures.1 1).does a p) (λ f h. halts _ _ h c.in_default.is))) (λ f h. took _ _ _ (is c.peek-by.ensures c.if-by-ne-BY.false) (halts _ _ h c.in_default.is)) })
 
 pub sort-returns-in_default-w : goal.sort-returns-in_default-w
 unfolding expr_w
-sort-returns-in_default-w t c = (passed_on c.way-w.ensures.0 c.in_default-w.is, record { does = λ a p. next ((c.loop-d.invariant.1 a p).on _ [] (next ((c.expr-r.ensures.1 1).does a p) (λ f h. goes _ _ h c.in-Got.is (λ rs F. halts _ _ c.way-w.ensures.1 c.in_default-w.is)))) (λ f h. took _ _ _ (is c.peek-by.ensures c.if-by-ne-BY.false) (halts _ _ h c.in_default-w.is)) })
-
-pub sort-overflow_cast-s_e : goal.sort-overflow_cast-s_e
-sort-overflow_cast-s_e t c = omega (arith, got_in c.way-w.ensures.0 c.in-Got-w.is, got_in c.expr-r.ensures.0 c.in-Got.is, c.requires, c.loop-d.invariant, c.if-by-ne-BY.false, c.peek-by.ensures)
-
-pub sort-overflow_sub-d : goal.sort-overflow_sub-d
-sort-overflow_sub-d t c = omega (arith, got_in c.way-w.ensures.0 c.in-Got-w.is, got_in c.expr-r.ensures.0 c.in-Got.is, c.requires, c.loop-d.invariant, c.if-by-ne-BY.false, c.peek-by.ensures)
-
-pub sort-overflow_add-d : goal.sort-overflow_add-d
-sort-overflow_add-d t c = omega (arith, got_in c.way-w.ensures.0 c.in-Got-w.is, got_in c.expr-r.ensures.0 c.in-Got.is, c.requires, c.loop-d.invariant, c.if-by-ne-BY.false, c.peek-by.ensures)
-
-pub sort-emit-made-requires : goal.sort-emit-made-requires
-sort-emit-made-requires t c = omega (arith, got_in c.way-w.ensures.0 c.in-Got-w.is, got_in c.expr-r.ensures.0 c.in-Got.is, c.requires, c.loop-d.invariant, c.if-by-ne-BY.false, c.peek-by.ensures)
-
-pub sort-overflow_add-n : goal.sort-overflow_add-n
-sort-overflow_add-n t c = omega (arith, got_in c.way-w.ensures.0 c.in-Got-w.is, got_in c.expr-r.ensures.0 c.in-Got.is, c.requires, c.emit-made.ensures.0, c.loop-d.invariant, c.if-by-ne-BY.false, c.peek-by.ensures)
-
-pub sort-overflow_add-at-in-loop-d : goal.sort-overflow_add-at-in-loop-d
-sort-overflow_add-at-in-loop-d t c = omega (arith, got_in c.way-w.ensures.0 c.in-Got-w.is, got_in c.expr-r.ensures.0 c.in-Got.is, c.requires, c.if-kind-ne-COMMA.false, c.peek-kind.ensures, c.emit-made.ensures.0, c.loop-d.invariant, c.if-by-ne-BY.false, c.peek-by.ensures)
-
-pub sort-loop-d-smaller : goal.sort-loop-d-smaller
-sort-loop-d-smaller t c = omega (arith, got_in c.way-w.ensures.0 c.in-Got-w.is, got_in c.expr-r.ensures.0 c.in-Got.is, c.requires, c.if-kind-ne-COMMA.false, c.peek-kind.ensures, c.emit-made.ensures.0, c.loop-d.invariant, c.if-by-ne-BY.false, c.peek-by.ensures)
+sort-returns-in_default-w t c = (passed_on c.way-w.ensures.0 c.in_default-w.is, record { does = λ a p. next ((c.loop-d.invariant.1 a p).on _ c.args.table.now (next ((c.expr-r.ensures.1 1).does a p) (λ f h. goes _ _ h c.in-Got.is (λ rs F. halts _ _ (c.way-w.ensures.1 c.args.table.now) c.in_default-w.is)))) (λ f h. took _ _ _ (is c.peek-by.ensures c.if-by-ne-BY.false) (halts _ _ h c.in_default-w.is)) })
 
 pub sort-loop-d-preserved : goal.sort-loop-d-preserved
 unfolding expr_w
-sort-loop-d-preserved t c = (omega (arith, got_in c.way-w.ensures.0 c.in-Got-w.is, got_in c.expr-r.ensures.0 c.in-Got.is, c.requires, c.if-kind-ne-COMMA.false, c.peek-kind.ensures, c.emit-made.ensures.0, c.loop-d.invariant, c.if-by-ne-BY.false, c.peek-by.ensures), λ a p. record { on = λ r N' l. (c.loop-d.invariant.1 a p).on r N' (next ((c.expr-r.ensures.1 1).does a p also l) (λ f h. goes _ _ h.0 c.in-Got.is (λ rs F. goes _ _ c.way-w.ensures.1 c.in-Got-w.is (λ os O. took _ _ _ (is c.peek-kind.ensures c.if-kind-ne-COMMA.false) (behind _ _ (topped F c.emit-made.ensures.1) h.1))))) })
-
-pub sort-overflow_sub-made : goal.sort-overflow_sub-made
-sort-overflow_sub-made t c = omega (arith, got_in c.way-w.ensures.0 c.in-Got-w.is, got_in c.expr-r.ensures.0 c.in-Got.is, c.requires, c.if-kind-ne-COMMA.true, c.peek-kind.ensures, c.emit-made.ensures.0, c.loop-d.invariant, c.if-by-ne-BY.false, c.peek-by.ensures)
-
-pub sort-overflow_add-made : goal.sort-overflow_add-made
-sort-overflow_add-made t c = omega (arith, got_in c.way-w.ensures.0 c.in-Got-w.is, got_in c.expr-r.ensures.0 c.in-Got.is, c.requires, c.if-kind-ne-COMMA.true, c.peek-kind.ensures, c.emit-made.ensures.0, c.loop-d.invariant, c.if-by-ne-BY.false, c.peek-by.ensures)
-
-pub sort-emit-m-requires : goal.sort-emit-m-requires
-sort-emit-m-requires t c = omega (arith, got_in c.way-w.ensures.0 c.in-Got-w.is, got_in c.expr-r.ensures.0 c.in-Got.is, c.requires, c.if-kind-ne-COMMA.true, c.peek-kind.ensures, c.emit-made.ensures.0, c.loop-d.invariant, c.if-by-ne-BY.false, c.peek-by.ensures)
+sort-loop-d-preserved t c = (omega (arith, got_in c.way-w.ensures.0 c.in-Got-w.is, got_in c.expr-r.ensures.0 c.in-Got.is, c.requires, c.if-kind-ne-COMMA.false, c.peek-kind.ensures, c.emit.ensures.0, c.loop-d.invariant, c.if-by-ne-BY.false, c.peek-by.ensures), λ a p. record { on = λ r N' l. (c.loop-d.invariant.1 a p).on r N' (next ((c.expr-r.ensures.1 1).does a p also l) (λ f h. goes _ _ h.0 c.in-Got.is (λ rs F. goes _ _ (c.way-w.ensures.1 c.args.table.now) c.in-Got-w.is (λ os O. took _ _ _ (is c.peek-kind.ensures c.if-kind-ne-COMMA.false) (behind _ _ (topped F c.emit.ensures.1) h.1))))) })
 
 pub sort-returns : goal.sort-returns
 unfolding expr_w
-sort-returns t c = (ended c.got.ensures (omega (arith, got_in c.way-w.ensures.0 c.in-Got-w.is, got_in c.expr-r.ensures.0 c.in-Got.is, c.requires, c.emit-m.ensures.0, c.if-kind-ne-COMMA.true, c.peek-kind.ensures, c.emit-made.ensures.0, c.loop-d.invariant, c.if-by-ne-BY.false, c.peek-by.ensures)), record { does = λ a p. next ((c.loop-d.invariant.1 a p).on (got_of 0 (c.loop-d.n + 1) _ _) _ (next ((c.expr-r.ensures.1 1).does a p) (λ f h. goes _ _ h c.in-Got.is (λ rs F. goes _ _ c.way-w.ensures.1 c.in-Got-w.is (λ os O. left _ _ _ (isn't c.peek-kind.ensures c.if-kind-ne-COMMA.true) (laid refl refl (topped F c.emit-made.ensures.1))))))) (λ f h. took _ _ _ (is c.peek-by.ensures c.if-by-ne-BY.false) (goes _ _ h refl (λ rs F. laid c.got.ensures refl (topped F c.emit-m.ensures.1)))) })
+sort-returns t c = (ended c.got.ensures (omega (arith, got_in c.way-w.ensures.0 c.in-Got-w.is, got_in c.expr-r.ensures.0 c.in-Got.is, c.requires, c.emit-2.ensures.0, c.if-kind-ne-COMMA.true, c.peek-kind.ensures, c.emit.ensures.0, c.loop-d.invariant, c.if-by-ne-BY.false, c.peek-by.ensures)), record { does = λ a p. next ((c.loop-d.invariant.1 a p).on (got_of 0 (c.loop-d.n + 1) _) _ (next ((c.expr-r.ensures.1 1).does a p) (λ f h. goes _ _ h c.in-Got.is (λ rs F. goes _ _ (c.way-w.ensures.1 c.args.table.now) c.in-Got-w.is (λ os O. left _ _ _ (isn't c.peek-kind.ensures c.if-kind-ne-COMMA.true) (laid refl refl (topped F c.emit.ensures.1))))))) (λ f h. took _ _ _ (is c.peek-by.ensures c.if-by-ne-BY.false) (goes _ _ h refl (λ rs F. laid c.got.ensures refl (topped F c.emit-2.ensures.1)))) })
 
 -- ── source ──
-pub source-src-requires : goal.source-src-requires
-source-src-requires t c = omega arith
-
 pub source-returns : goal.source-returns
 source-returns t c = c.src.ensures
 
 -- ── src ──
-pub src-table-requires : goal.src-table-requires
-src-table-requires t c = omega arith
-
 pub src-returns-then-kind-ne-LP : goal.src-returns-then-kind-ne-LP
 unfolding expr_w
-src-returns-then-kind-ne-LP t c = (further c.table.ensures.0 (omega arith), record { does = λ a p. at_once (λ f. left _ _ _ (isn't c.peek-kind.ensures c.if-kind-ne-LP.true) c.table.ensures.1) })
-
-pub src-overflow_add-at : goal.src-overflow_add-at
-src-overflow_add-at t c = omega arith
-
-pub src-query-q-requires : goal.src-query-q-requires
-src-query-q-requires t c = omega arith
+src-returns-then-kind-ne-LP t c = (further c.source_table.ensures.0 (omega arith), record { does = λ a p. at_once (λ f. left _ _ _ (isn't c.peek-kind.ensures c.if-kind-ne-LP.true) c.source_table.ensures.1) })
 
 pub src-returns-in_default : goal.src-returns-in_default
 unfolding expr_w
 src-returns-in_default t c = (passed_on c.query-q.ensures.0 c.in_default.is, record { does = λ a p. next (c.query-q.ensures.1.does a (c.with.ensures.2.packs a 1 p)) (λ f h. took _ _ _ (is c.peek-kind.ensures c.if-kind-ne-LP.false) (halts _ _ h c.in_default.is)) })
 
-pub src-lent-requires : goal.src-lent-requires
-src-lent-requires t c = omega (arith, got_in c.query-q.ensures.0 c.in-Got.is, c.requires, c.if-kind-ne-LP.false, c.peek-kind.ensures)
-
 pub src-returns : goal.src-returns
 unfolding expr_w
-src-returns t c = (further c.lent.ensures.0 (omega (arith, got_in c.query-q.ensures.0 c.in-Got.is, c.requires, c.if-kind-ne-LP.false, c.peek-kind.ensures)), record { does = λ a p. next (c.query-q.ensures.1.does a (c.with.ensures.2.packs a 1 p)) (λ f h. took _ _ _ (is c.peek-kind.ensures c.if-kind-ne-LP.false) (goes _ _ h c.in-Got.is (λ rs F. c.lent.ensures.1 _ rs F))) })
+src-returns t c = (further c.lent.ensures.0 (omega (arith, got_in c.query-q.ensures.0 c.in-Got.is, c.requires, c.if-kind-ne-LP.false, c.peek-kind.ensures)), record { does = λ a p. next (c.query-q.ensures.1.does a (c.with.ensures.2.packs a 1 p)) (λ f h. took _ _ _ (is c.peek-kind.ensures c.if-kind-ne-LP.false) (goes _ _ h c.in-Got.is (λ rs F. c.lent.ensures.1 _ rs refl F))) })
 
 -- ── sub ──
-pub sub-query-q-requires : goal.sub-query-q-requires
-sub-query-q-requires t c = omega arith
-
 pub sub-returns-in_default : goal.sub-returns-in_default
 unfolding expr_w
 sub-returns-in_default t c = (passed_on c.query-q.ensures.0 c.in_default.is, record { does = λ a p. next (c.query-q.ensures.1.does a (c.with.ensures.2.packs a 1 p)) (λ f h. halts _ _ h c.in_default.is) })
 
-pub sub-close-requires : goal.sub-close-requires
-sub-close-requires t c = omega (arith, got_in c.query-q.ensures.0 c.in-Got.is, c.requires)
-
 pub sub-returns : goal.sub-returns
 unfolding expr_w
-sub-returns t c = (further c.close.ensures.0 (omega (arith, got_in c.query-q.ensures.0 c.in-Got.is, c.requires)), record { does = λ a p. next (c.query-q.ensures.1.does a (c.with.ensures.2.packs a 1 p)) (λ f h. goes _ _ h c.in-Got.is (λ rs F. behind _ _ F (c.close.ensures.1 (length rs) F.counted))) })
+sub-returns t c = (further c.close.ensures.0 (omega (arith, got_in c.query-q.ensures.0 c.in-Got.is, c.requires)), record { does = λ a p. next (c.query-q.ensures.1.does a (c.with.ensures.2.packs a 1 p)) (λ f h. goes _ _ h c.in-Got.is (λ rs F. behind _ _ F (c.close.ensures.1 (length rs) F.filled.counted))) })
 
 -- ── tail ──
-pub tail-overflow_add-at : goal.tail-overflow_add-at
-tail-overflow_add-at t c = omega arith
-
-pub tail-sort-o-requires : goal.tail-sort-o-requires
-tail-sort-o-requires t c = omega arith
-
 pub tail-returns-in_default-o : goal.tail-returns-in_default-o
 unfolding expr_w absences
 tail-returns-in_default-o t c = (passed_on c.sort-o.ensures.0 c.in_default-o.is, record { does = λ a p. next (c.sort-o.ensures.1.does a p) (λ f h. took _ _ _ (is c.peek-kind.ensures c.in-64.is) (halts _ _ h c.in_default-o.is)) })
-
-pub tail-limit-requires : goal.tail-limit-requires
-tail-limit-requires t c = omega (arith, got_in c.sort-o.ensures.0 c.in-Got.is, c.requires, c.peek-kind.ensures)
-
-pub tail-absent-m-requires : goal.tail-absent-m-requires
-tail-absent-m-requires t c = omega arith
-
-pub tail-limit-requires-in-70 : goal.tail-limit-requires-in-70
-tail-limit-requires-in-70 t c = omega arith
-
-pub tail-absent-m-requires-in_default : goal.tail-absent-m-requires-in_default
-tail-absent-m-requires-in_default t c = omega arith
 
 pub tail-returns-in-Got : goal.tail-returns-in-Got
 unfolding expr_w absences
@@ -1357,43 +643,28 @@ tail-returns-in-Got t c = (further c.limit.ensures.0 (omega (arith, got_in c.sor
 
 pub tail-returns-in-70 : goal.tail-returns-in-70
 unfolding expr_w absences
-tail-returns-in-70 t c = (further c.limit-in-70.ensures.0 (omega (arith, c.requires, c.absent-m.ensures.0, c.peek-kind.ensures)), record { does = λ a p. next (c.limit-in-70.ensures.1.does a p) (λ f h. left _ _ _ (differs _ c.peek-kind.ensures c.in-70.is refl) (behind _ _ c.absent-m.ensures.1 h)) })
+tail-returns-in-70 t c = (further c.limit-in-70.ensures.0 (omega (arith, c.requires, c.absent.ensures.0, c.peek-kind.ensures)), record { does = λ a p. next (c.limit-in-70.ensures.1.does a p) (λ f h. left _ _ _ (differs _ c.peek-kind.ensures c.in-70.is refl) (behind _ _ c.absent.ensures.1 h)) })
 
 pub tail-returns-in_default : goal.tail-returns-in_default
 unfolding expr_w absences
-tail-returns-in_default t c = (ended c.got.ensures (omega arith), record { does = λ a p. at_second (λ f. by_walk (no_tail (kinds_of c.args.lists.now) (texts_of c.args.lists.now) f c.args.at a (isn't c.peek-kind.ensures c.in_default.in_default-own.rest.0.1) (isn't c.peek-kind.ensures c.in_default.in_default-own.rest.1)) (laid c.got.ensures refl c.absent-m-in_default.ensures.1)) })
+tail-returns-in_default t c = (ended c.got.ensures (omega arith), record { does = λ a p. at_second (λ f. by_walk (no_tail (kinds_of c.args.lists.now) (texts_of c.args.lists.now) f c.args.at a (isn't c.peek-kind.ensures c.in_default.in_default-own.rest.0.1) (isn't c.peek-kind.ensures c.in_default.in_default-own.rest.1)) (laid c.got.ensures refl c.absent-in_default.ensures.1)) })
 
 -- ── when ──
 pub when-loop-c-init : goal.when-loop-c-init
 unfolding expr_w
 when-loop-c-init t c = (omega arith, λ a p. loop_start)
 
-pub when-after-w-requires : goal.when-after-w-requires
-when-after-w-requires t c = omega arith
-
 pub when-returns-in_default : goal.when-returns-in_default
 unfolding expr_w
 when-returns-in_default t c = (passed_on c.after-w.ensures.0 c.in_default.is, record { does = λ a p. (c.loop-c.invariant.1 a p).on _ _ (next ((c.after-w.ensures.1 1).does a p) (λ f h. halts _ _ h c.in_default.is)) })
-
-pub when-after-t-requires : goal.when-after-t-requires
-when-after-t-requires t c = omega (arith, got_in c.after-w.ensures.0 c.in-Got.is, c.requires, c.loop-c.invariant)
 
 pub when-returns-in_default-t : goal.when-returns-in_default-t
 unfolding expr_w
 when-returns-in_default-t t c = (passed_on c.after-t.ensures.0 c.in_default-t.is, record { does = λ a p. (c.loop-c.invariant.1 a p).on _ _ (next ((c.after-w.ensures.1 1).does a p also (c.after-t.ensures.1 1).does a p) (λ f h. goes _ _ h.0 c.in-Got.is (λ rs F. halts _ _ h.1 c.in_default-t.is))) })
 
-pub when-overflow_add-n : goal.when-overflow_add-n
-when-overflow_add-n t c = omega (arith, got_in c.after-t.ensures.0 c.in-Got-t.is, got_in c.after-w.ensures.0 c.in-Got.is, c.requires, c.loop-c.invariant)
-
-pub when-loop-c-smaller : goal.when-loop-c-smaller
-when-loop-c-smaller t c = omega (arith, got_in c.after-t.ensures.0 c.in-Got-t.is, got_in c.after-w.ensures.0 c.in-Got.is, c.requires, c.if-kind-ne-WHEN.false, c.peek-kind.ensures, c.loop-c.invariant)
-
 pub when-loop-c-preserved : goal.when-loop-c-preserved
 unfolding expr_w
 when-loop-c-preserved t c = (omega (arith, got_in c.after-t.ensures.0 c.in-Got-t.is, got_in c.after-w.ensures.0 c.in-Got.is, c.requires, c.if-kind-ne-WHEN.false, c.peek-kind.ensures, c.loop-c.invariant), λ a p. record { on = λ r N' l. (c.loop-c.invariant.1 a p).on r N' (next ((c.after-w.ensures.1 1).does a p also (c.after-t.ensures.1 1).does a p also l) (λ f h. goes _ _ h.0 c.in-Got.is (λ rs F. goes _ _ h.1.0 c.in-Got-t.is (λ qs G. took _ _ _ (is c.peek-kind.ensures c.if-kind-ne-WHEN.false) (behind _ _ (F then G) h.1.1))))) })
-
-pub when-counted-requires : goal.when-counted-requires
-when-counted-requires t c = omega (arith, got_in c.after-t.ensures.0 c.in-Got-t.is, got_in c.after-w.ensures.0 c.in-Got.is, c.requires, c.if-kind-ne-WHEN.true, c.peek-kind.ensures, c.loop-c.invariant)
 
 pub when-returns : goal.when-returns
 unfolding expr_w

@@ -6,10 +6,9 @@ use Rattle.descent.proofs.Walk.{cols_w, joins_w, list_w, ops_w, rows_w, terms_w,
 use Rattle.reader.specs.Laying.{Packed, Onward, Laid, Later}
 use mathlib.Core.Path.{◌≡◌}
 use Rattle.reader.specs.Bounds.{kinds_of, texts_of, tokens}
-use mathlib.Core.List.{List}
-use lib.ListN.{length}
 use Rattle.grammar.specs.Limits.{Around}
 use Rattle.reader.specs.declared.Step.{Step}
+use Rattle.reader.specs.declared.table.Table.{Table}
 use Rattle.reader.proofs.+walk.Given as goal
 
 abbrev pub decreases-after : goal.decreases-after
@@ -127,43 +126,43 @@ abbrev pub decreases-when : goal.decreases-when
 decreases-when l = rank 1 l.lists.now l.from
 
 abbrev pub invariant-cols-loop-d : goal.invariant-cols-loop-d
-invariant-cols-loop-d l = ((l.at ≤ tokens l.lists) × (l.from ≤ l.at) × (l.base ≤ l.made) × (l.made + 8 * l.from ≤ l.base + 8 * l.at) × (l.n + l.from ≤ l.at) × (length l.nodes ≡ length l.initial.nodes)) × ((a : Around) → Packed a 1 l.ask → Onward l.base l.made l.initial.nodes l.nodes (λ f. cols_w (kinds_of l.lists) (texts_of l.lists) f l.from a 0) (λ f. cols_w (kinds_of l.lists) (texts_of l.lists) f l.at a l.n))
+invariant-cols-loop-d l = ((l.at ≤ tokens l.lists) × (l.from ≤ l.at) × (l.initial.table.made ≤ l.table.made) × (l.table.made + 8 * l.from ≤ l.initial.table.made + 8 * l.at) × (l.n + l.from ≤ l.at)) × ((a : Around) → Packed a 1 l.ask → Onward l.initial.table l.table (λ f. cols_w (kinds_of l.lists) (texts_of l.lists) f l.from a 0) (λ f. cols_w (kinds_of l.lists) (texts_of l.lists) f l.at a l.n))
 
 abbrev pub decreases-cols-loop-d : goal.decreases-cols-loop-d
 decreases-cols-loop-d l = tokens l.lists - l.at
 
 abbrev pub invariant-joins-loop-ask : goal.invariant-joins-loop-ask
-invariant-joins-loop-ask l = ((l.at ≤ tokens l.lists) × (l.from ≤ l.at) × (l.start ≤ l.made) × (l.made + 8 * l.from ≤ l.start + 8 * l.at) × (l.n + l.from ≤ l.at) × (length l.nodes ≡ length l.initial.nodes)) × ((a : Around) → Packed a 1 l.ask → Onward l.start l.made l.initial.nodes l.nodes (λ f. joins_w (kinds_of l.lists) (texts_of l.lists) f l.from a 0) (λ f. joins_w (kinds_of l.lists) (texts_of l.lists) f l.at a l.n))
+invariant-joins-loop-ask l = ((l.at ≤ tokens l.lists) × (l.from ≤ l.at) × (l.initial.table.made ≤ l.table.made) × (l.table.made + 8 * l.from ≤ l.initial.table.made + 8 * l.at) × (l.n + l.from ≤ l.at)) × ((a : Around) → Packed a 1 l.ask → Onward l.initial.table l.table (λ f. joins_w (kinds_of l.lists) (texts_of l.lists) f l.from a 0) (λ f. joins_w (kinds_of l.lists) (texts_of l.lists) f l.at a l.n))
 
 abbrev pub decreases-joins-loop-ask : goal.decreases-joins-loop-ask
 decreases-joins-loop-ask l = tokens l.lists - l.at
 
 abbrev pub invariant-list-loop-d : goal.invariant-list-loop-d
-invariant-list-loop-d l = ((l.at ≤ tokens l.lists) × (l.from ≤ l.at) × (l.start ≤ l.made) × (l.made + 8 * l.from ≤ l.start + 8 * l.at) × (l.n + l.from ≤ l.at) × (length l.nodes ≡ length l.initial.nodes)) × ((a : Around) → Packed a 1 l.ask → Onward l.start l.made l.initial.nodes l.nodes (λ f. list_w (kinds_of l.lists) (texts_of l.lists) f l.from a 0) (λ f. list_w (kinds_of l.lists) (texts_of l.lists) f l.at a l.n))
+invariant-list-loop-d l = ((l.at ≤ tokens l.lists) × (l.from ≤ l.at) × (l.initial.table.made ≤ l.table.made) × (l.table.made + 8 * l.from ≤ l.initial.table.made + 8 * l.at) × (l.n + l.from ≤ l.at)) × ((a : Around) → Packed a 1 l.ask → Onward l.initial.table l.table (λ f. list_w (kinds_of l.lists) (texts_of l.lists) f l.from a 0) (λ f. list_w (kinds_of l.lists) (texts_of l.lists) f l.at a l.n))
 
 abbrev pub decreases-list-loop-d : goal.decreases-list-loop-d
 decreases-list-loop-d l = tokens l.lists - l.at
 
 abbrev pub invariant-ops-loop-ask : goal.invariant-ops-loop-ask
-invariant-ops-loop-ask l = ((l.at ≤ tokens l.lists) × (l.from ≤ l.at) × (l.start ≤ l.made) × (l.made + 8 * l.from ≤ l.start + 8 * l.at) × (l.left ≤ 127) × (length l.nodes ≡ length l.initial.nodes)) × ((a : Around) (s₁ pre : ℕ) → Packed a s₁ l.ask → l.start ≡ l.base + pre → (r : Step) (N : List ℕ) → Later (λ f. (z : ℕ) → l.made ≡ l.base + z → Laid l.made l.nodes N (ops_w (kinds_of l.lists) (texts_of l.lists) f l.at a s₁ l.left z) r) → Later (λ f. Laid l.start l.initial.nodes N (ops_w (kinds_of l.lists) (texts_of l.lists) f l.from a s₁ l.first pre) r))
+invariant-ops-loop-ask l = ((l.at ≤ tokens l.lists) × (l.from ≤ l.at) × (l.initial.table.made ≤ l.table.made) × (l.table.made + 8 * l.from ≤ l.initial.table.made + 8 * l.at) × (l.left ≤ 127)) × ((a : Around) (s₁ pre : ℕ) → Packed a s₁ l.ask → l.initial.table.made ≡ l.base + pre → (r : Step) (t : Table) → Later (λ f. (z : ℕ) → l.table.made ≡ l.base + z → Laid l.table t (ops_w (kinds_of l.lists) (texts_of l.lists) f l.at a s₁ l.left z) r) → Later (λ f. Laid l.initial.table t (ops_w (kinds_of l.lists) (texts_of l.lists) f l.from a s₁ l.first pre) r))
 
 abbrev pub decreases-ops-loop-ask : goal.decreases-ops-loop-ask
 decreases-ops-loop-ask l = tokens l.lists - l.at
 
 abbrev pub invariant-rows-loop-n_d : goal.invariant-rows-loop-n_d
-invariant-rows-loop-n_d l = ((l.at ≤ tokens l.lists) × (l.from ≤ l.at) × (l.base ≤ l.made) × (l.made + 8 * l.from ≤ l.base + 8 * l.at) × (l.rows + l.from ≤ l.at) × (length l.nodes ≡ length l.initial.nodes)) × ((a : Around) → Packed a 1 l.ask → Onward l.base l.made l.initial.nodes l.nodes (λ f. rows_w (kinds_of l.lists) (texts_of l.lists) f l.from a 0 0) (λ f. rows_w (kinds_of l.lists) (texts_of l.lists) f l.at a l.rows l.width))
+invariant-rows-loop-n_d l = ((l.at ≤ tokens l.lists) × (l.from ≤ l.at) × (l.initial.table.made ≤ l.table.made) × (l.table.made + 8 * l.from ≤ l.initial.table.made + 8 * l.at) × (l.rows + l.from ≤ l.at)) × ((a : Around) → Packed a 1 l.ask → Onward l.initial.table l.table (λ f. rows_w (kinds_of l.lists) (texts_of l.lists) f l.from a 0 0) (λ f. rows_w (kinds_of l.lists) (texts_of l.lists) f l.at a l.rows l.width))
 
 abbrev pub decreases-rows-loop-n_d : goal.decreases-rows-loop-n_d
 decreases-rows-loop-n_d l = tokens l.lists - l.at
 
 abbrev pub invariant-sort-loop-d : goal.invariant-sort-loop-d
-invariant-sort-loop-d l = ((l.at ≤ tokens l.lists) × (l.from + 1 ≤ l.at) × (l.base ≤ l.made) × (l.made + 8 * (l.from + 1) ≤ l.base + 8 * l.at) × (l.n + l.from + 1 ≤ l.at) × (length l.nodes ≡ length l.initial.nodes)) × ((a : Around) → Packed a 1 l.ask → Onward l.base l.made l.initial.nodes l.nodes (λ f. terms_w (kinds_of l.lists) (texts_of l.lists) f (l.from + 1) a 0) (λ f. terms_w (kinds_of l.lists) (texts_of l.lists) f l.at a l.n))
+invariant-sort-loop-d l = ((l.at ≤ tokens l.lists) × (l.from + 1 ≤ l.at) × (l.initial.table.made ≤ l.table.made) × (l.table.made + 8 * (l.from + 1) ≤ l.initial.table.made + 8 * l.at) × (l.n + l.from + 1 ≤ l.at)) × ((a : Around) → Packed a 1 l.ask → Onward l.initial.table l.table (λ f. terms_w (kinds_of l.lists) (texts_of l.lists) f (l.from + 1) a 0) (λ f. terms_w (kinds_of l.lists) (texts_of l.lists) f l.at a l.n))
 
 abbrev pub decreases-sort-loop-d : goal.decreases-sort-loop-d
 decreases-sort-loop-d l = tokens l.lists - l.at
 
 abbrev pub invariant-when-loop-c : goal.invariant-when-loop-c
-invariant-when-loop-c l = ((l.at ≤ tokens l.lists) × (l.from ≤ l.at) × (l.start ≤ l.made) × (l.made + 8 * l.from ≤ l.start + 8 * l.at) × (l.n + l.from ≤ l.at) × (length l.nodes ≡ length l.initial.nodes)) × ((a : Around) → Packed a 1 l.ask → Onward l.start l.made l.initial.nodes l.nodes (λ f. when_w (kinds_of l.lists) (texts_of l.lists) f l.from a 0) (λ f. when_w (kinds_of l.lists) (texts_of l.lists) f l.at a l.n))
+invariant-when-loop-c l = ((l.at ≤ tokens l.lists) × (l.from ≤ l.at) × (l.initial.table.made ≤ l.table.made) × (l.table.made + 8 * l.from ≤ l.initial.table.made + 8 * l.at) × (l.n + l.from ≤ l.at)) × ((a : Around) → Packed a 1 l.ask → Onward l.initial.table l.table (λ f. when_w (kinds_of l.lists) (texts_of l.lists) f l.from a 0) (λ f. when_w (kinds_of l.lists) (texts_of l.lists) f l.at a l.n))
 
 abbrev pub decreases-when-loop-c : goal.decreases-when-loop-c
 decreases-when-loop-c l = tokens l.lists - l.at

@@ -12,12 +12,9 @@ use lib.Dec.{eqb}
 use Rattle.reader.proofs.alias.Goals as goal
 use Rattle.reader.proofs.alias.Goals.{in-50-1, in_default+else-kind-lt1+then-kind-lt4}
 
-pub renamed-requires : goal.renamed-requires
-renamed-requires c = omega arith
-
 pub returns-in_default : goal.returns-in_default
 unfolding alias_w absences
-returns-in_default c = (ended c.got.ensures (omega (arith, c.requires, c.absent-m.ensures.0, c.peek-kind.ensures)), left _ _ _ (isn't c.peek-kind.ensures c.in_default-1.rest.1) (left _ _ _ (by_kind is_bare_alias c.peek-kind.ensures (bare_out _ (λ h. omega (arith, h)))) (laid c.got.ensures refl c.absent-m.ensures.1)))
+returns-in_default c = (ended c.got.ensures (omega (arith, c.requires, c.absent.ensures.0, c.peek-kind.ensures)), left _ _ _ (isn't c.peek-kind.ensures c.in_default-1.rest.1) (left _ _ _ (by_kind is_bare_alias c.peek-kind.ensures (bare_out _ (λ h. omega (arith, h)))) (laid c.got.ensures refl c.absent.ensures.1)))
 
 pub returns-in-50 : goal.returns-in-50
 unfolding alias_w absences

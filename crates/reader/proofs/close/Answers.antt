@@ -11,4 +11,4 @@ returns-then-kind-ne-RP c = (refused c.wrong.ensures.0 (omega arith), λ pre b. 
 
 pub returns : goal.returns
 unfolding close_w
-returns c = (ended c.got.ensures (omega arith), λ pre b. took _ _ _ (is c.peek-kind.ensures c.if-kind-ne-RP.false) (laid c.got.ensures refl (closed _ pre b c.emit-m.ensures.1)))
+returns c = (ended c.got.ensures (omega arith), λ pre b. took _ _ _ (is c.peek-kind.ensures c.if-kind-ne-RP.false) (laid c.got.ensures refl (closed _ pre b c.emit.ensures.1)))

@@ -9,15 +9,6 @@ pub returns-in_default : goal.returns-in_default
 unfolding collate_w
 returns-in_default c = (passed_on c.name-r.ensures.0 c.in_default.is, λ pre b. halts _ _ c.name-r.ensures.2 c.in_default.is)
 
-pub overflow_sub-d : goal.overflow_sub-d
-overflow_sub-d c = omega (arith, got_in c.name-r.ensures.0 c.in-Got.is, one_on c.name-r.ensures.1 c.in-Got.is, c.requires)
-
-pub overflow_add-d : goal.overflow_add-d
-overflow_add-d c = omega (arith, got_in c.name-r.ensures.0 c.in-Got.is, one_on c.name-r.ensures.1 c.in-Got.is, c.requires)
-
-pub emit-m-requires : goal.emit-m-requires
-emit-m-requires c = omega (arith, got_in c.name-r.ensures.0 c.in-Got.is, one_on c.name-r.ensures.1 c.in-Got.is, c.requires)
-
 pub returns : goal.returns
 unfolding collate_w
-returns c = (ended c.got.ensures (omega (arith, got_in c.name-r.ensures.0 c.in-Got.is, one_on c.name-r.ensures.1 c.in-Got.is, c.requires, c.emit-m.ensures.0)), λ pre b. goes _ _ c.name-r.ensures.2 c.in-Got.is (λ rs F. laid c.got.ensures refl (capped _ pre b F c.emit-m.ensures.1)))
+returns c = (ended c.got.ensures (omega (arith, got_in c.name-r.ensures.0 c.in-Got.is, one_on c.name-r.ensures.1 c.in-Got.is, c.requires, c.emit.ensures.0)), λ pre b. goes _ _ c.name-r.ensures.2 c.in-Got.is (λ rs F. laid c.got.ensures refl (capped _ pre b F c.emit.ensures.1)))

@@ -10,11 +10,11 @@ use Rattle.reader.proofs.dotted.Goals.{else-s-eq-COLUMN, then-s-eq-COLUMN+else-p
 
 pub returns-then-kind-ne-DOT : goal.returns-then-kind-ne-DOT
 unfolding dotted_w
-returns-then-kind-ne-DOT c = (ended c.got.ensures (omega arith), left _ _ _ (isn't c.requires.1 c.if-kind-ne-DOT.true) (laid c.got.ensures refl c.emit-m.ensures.1))
+returns-then-kind-ne-DOT c = (ended c.got.ensures (omega arith), left _ _ _ (isn't c.requires.1 c.if-kind-ne-DOT.true) (laid c.got.ensures refl c.emit.ensures.1))
 
 pub returns-then-peek-eq-STAR : goal.returns-then-peek-eq-STAR
 unfolding dotted_w
-returns-then-peek-eq-STAR c = (ended c.got-then-peek-eq-STAR.ensures (omega (arith, c.requires, c.emit-m-then-peek-eq-STAR.ensures.0, c.if-peek-eq-STAR.true, c.peek.ensures, c.if-s-eq-COLUMN.true, c.if-kind-ne-DOT.false)), took _ _ _ (is c.requires.1 c.if-kind-ne-DOT.false) (took _ _ _ (both_i _ _ (eqb-true _ _ c.if-s-eq-COLUMN.true) (is c.peek.ensures c.if-peek-eq-STAR.true)) (laid c.got-then-peek-eq-STAR.ensures refl c.emit-m-then-peek-eq-STAR.ensures.1)))
+returns-then-peek-eq-STAR c = (ended c.got-then-peek-eq-STAR.ensures (omega (arith, c.requires, c.emit-then-peek-eq-STAR.ensures.0, c.if-peek-eq-STAR.true, c.peek.ensures, c.if-s-eq-COLUMN.true, c.if-kind-ne-DOT.false)), took _ _ _ (is c.requires.1 c.if-kind-ne-DOT.false) (took _ _ _ (both_i _ _ (eqb-true _ _ c.if-s-eq-COLUMN.true) (is c.peek.ensures c.if-peek-eq-STAR.true)) (laid c.got-then-peek-eq-STAR.ensures refl c.emit-then-peek-eq-STAR.ensures.1)))
 
 pub returns : goal.returns
 unfolding dotted_w

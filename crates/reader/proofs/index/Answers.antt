@@ -24,8 +24,8 @@ returns-in-Got c = (ended c.got.ensures (omega (arith, got_in c.name-r.ensures.0
 
 pub returns-else-x-ne-INDEXED : goal.returns-else-x-ne-INDEXED
 unfolding index_w absences
-returns-else-x-ne-INDEXED c = (ended c.got-in-36.ensures (omega (arith, c.requires, c.absent-m.ensures.0, c.if-x-ne-INDEXED.false, c.peek-x.ensures, c.peek-kind.ensures)), left _ _ _ (differs _ c.peek-kind.ensures c.in-36.is refl) (took _ _ _ (is c.peek-kind.ensures c.in-36.is) (took _ _ _ (is c.peek-x.ensures c.if-x-ne-INDEXED.false) (laid c.got-in-36.ensures refl c.absent-m.ensures.1))))
+returns-else-x-ne-INDEXED c = (ended c.got-in-36.ensures (omega (arith, c.requires, c.absent.ensures.0, c.if-x-ne-INDEXED.false, c.peek-x.ensures, c.peek-kind.ensures)), left _ _ _ (differs _ c.peek-kind.ensures c.in-36.is refl) (took _ _ _ (is c.peek-kind.ensures c.in-36.is) (took _ _ _ (is c.peek-x.ensures c.if-x-ne-INDEXED.false) (laid c.got-in-36.ensures refl c.absent.ensures.1))))
 
 pub returns-in_default : goal.returns-in_default
 unfolding index_w absences
-returns-in_default c = (ended c.got-in_default.ensures (omega arith), left _ _ _ (isn't c.peek-kind.ensures c.in_default.in_default-own.rest.0.1) (left _ _ _ (isn't c.peek-kind.ensures c.in_default.in_default-own.rest.1) (laid c.got-in_default.ensures refl c.absent-m-in_default.ensures.1)))
+returns-in_default c = (ended c.got-in_default.ensures (omega arith), left _ _ _ (isn't c.peek-kind.ensures c.in_default.in_default-own.rest.0.1) (left _ _ _ (isn't c.peek-kind.ensures c.in_default.in_default-own.rest.1) (laid c.got-in_default.ensures refl c.absent-in_default.ensures.1)))

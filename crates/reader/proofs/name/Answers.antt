@@ -12,9 +12,9 @@ pub returns-then-not-is_name : goal.returns-then-not-is_name
 unfolding name_w
 returns-then-not-is_name c = (refused c.wrong.ensures.0 (omega arith), one_on_refused c.wrong.ensures.0, left _ _ _ (by_kind is_name c.peek-kind.ensures (sym c.is_name.ensures ∙ c.if-not-is_name.true)) (misfit c.peek-kind.ensures c.wrong.ensures.1))
 
-pub named-m-requires : goal.named-m-requires
-named-m-requires c = let k : 0 < c.peek-kind.result = name_is _ (sym c.is_name.ensures ∙ c.if-not-is_name.false) in omega arith
+pub named-requires : goal.named-requires
+named-requires c = let k : 0 < c.peek-kind.result = name_is _ (sym c.is_name.ensures ∙ c.if-not-is_name.false) in omega arith
 
 pub returns : goal.returns
 unfolding name_w
-returns c = let k : 0 < c.peek-kind.result = name_is _ (sym c.is_name.ensures ∙ c.if-not-is_name.false) in (ended c.got.ensures (omega arith), one_on_got c.got.ensures refl, took _ _ _ (by_kind is_name c.peek-kind.ensures (sym c.is_name.ensures ∙ c.if-not-is_name.false)) (laid c.got.ensures refl (c.named-m.ensures.1 c.peek-kind.ensures.is)))
+returns c = let k : 0 < c.peek-kind.result = name_is _ (sym c.is_name.ensures ∙ c.if-not-is_name.false) in (ended c.got.ensures (omega arith), one_on_got c.got.ensures refl, took _ _ _ (by_kind is_name c.peek-kind.ensures (sym c.is_name.ensures ∙ c.if-not-is_name.false)) (laid c.got.ensures refl (c.named.ensures.1 c.peek-kind.ensures.is)))

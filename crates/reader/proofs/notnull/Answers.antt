@@ -10,4 +10,4 @@ pub returns-then-word-ne-NULL : goal.returns-then-word-ne-NULL
 returns-then-word-ne-NULL c = (null_refused c.wrong.ensures.0 refl, λ pre b. left _ _ _ (ne_eqb _ _ c.if-word-ne-NULL.true) (said c.wrong.ensures.1 refl))
 
 pub returns : goal.returns
-returns c = (null_got c.got.ensures (omega arith), λ pre b. took _ _ _ (eqb-true _ _ c.if-word-ne-NULL.false) (laid c.got.ensures refl (closed _ pre b c.emit-m.ensures.1)))
+returns c = (null_got c.got.ensures (omega arith), λ pre b. took _ _ _ (eqb-true _ _ c.if-word-ne-NULL.false) (laid c.got.ensures refl (closed _ pre b c.emit.ensures.1)))

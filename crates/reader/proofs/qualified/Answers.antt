@@ -9,16 +9,10 @@ pub returns-in_default : goal.returns-in_default
 unfolding qualified_w absences
 returns-in_default c = (passed_on c.name-r.ensures.0 c.in_default.is, took _ _ _ (is c.peek.ensures c.if-peek-eq-DOT.true) (halts _ _ c.name-r.ensures.2 c.in_default.is))
 
-pub overflow_add-d : goal.overflow_add-d
-overflow_add-d c = omega (arith, got_in c.name-r.ensures.0 c.in-Got.is, one_on c.name-r.ensures.1 c.in-Got.is, c.requires, c.if-peek-eq-DOT.true, c.peek.ensures)
-
-pub name-requires : goal.name-requires
-name-requires c = omega (arith, got_in c.name-r.ensures.0 c.in-Got.is, one_on c.name-r.ensures.1 c.in-Got.is, c.requires, c.if-peek-eq-DOT.true, c.peek.ensures)
-
 pub returns-then-peek-eq-DOT : goal.returns-then-peek-eq-DOT
 unfolding qualified_w absences
 returns-then-peek-eq-DOT c = (further c.name.ensures.0 (omega (arith, got_in c.name-r.ensures.0 c.in-Got.is, one_on c.name-r.ensures.1 c.in-Got.is, c.requires, c.if-peek-eq-DOT.true, c.peek.ensures)), took _ _ _ (is c.peek.ensures c.if-peek-eq-DOT.true) (goes _ _ c.name-r.ensures.2 c.in-Got.is (λ rs F. behind _ _ F c.name.ensures.2)))
 
 pub returns : goal.returns
 unfolding qualified_w absences
-returns c = (further c.name-2.ensures.0 (omega (arith, c.requires, c.absent-m.ensures.0, c.if-peek-eq-DOT.false, c.peek.ensures)), left _ _ _ (isn't c.peek.ensures c.if-peek-eq-DOT.false) (behind _ _ c.absent-m.ensures.1 c.name-2.ensures.2))
+returns c = (further c.name-2.ensures.0 (omega (arith, c.requires, c.absent.ensures.0, c.if-peek-eq-DOT.false, c.peek.ensures)), left _ _ _ (isn't c.peek.ensures c.if-peek-eq-DOT.false) (behind _ _ c.absent.ensures.1 c.name-2.ensures.2))

@@ -1,7 +1,7 @@
 use Prim.Native.Nat.{◌-◌}
 use native.Mathlib.Omega.{arith}
 use Rattle.reader.proofs.Turning.{swapped, turned_on, turned_whole}
-use Rattle.reader.proofs.reverse.Goals as goal
+use Rattle.reader.proofs.table.reverse.Goals as goal
 
 pub loop-a-init : goal.loop-a-init
 loop-a-init c = (omega arith, omega arith, omega arith, omega arith, λ E t. t)
