@@ -1,7 +1,9 @@
 -- A code that is there is that number, and not 0; one that is not there is 0. Assumes nothing.
-use mathlib.Core.Path.{◌≡◌}
-use Prim.Native.Nat.{ℕ, ◌<◌}
+use mathlib.Core.Path.{◌≡◌, refl, sym, ap, ◌∙◌}
+use mathlib.Core.Bool.{Bool, true, false, cond}
+use Prim.Native.Nat.{ℕ, zero, suc, ◌<◌}
 use native.Mathlib.Omega.{arith}
+use lib.Dec.{eqb}
 use Rattle.std.specs.Prelude.{Option, None, Some, unwrap_or}
 use Rattle.kinds.specs.Classes.{code_there}
 
