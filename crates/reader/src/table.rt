@@ -59,7 +59,7 @@ impl Table<'_> {
     }
 }
 
-// By a loop of its own: a call of `emit` for each costs a short command a tenth of its instructions.
+// By a loop of its own: a call of `emit` for each costs the shortest command a twelfth more instructions.
 fn missing(nodes: &mut [u32], made: u32, n: u32)
     requires { made + n ≤ 65536 }
     ensures { Filled nodes.old nodes.new made (made + n) (absences n) }
