@@ -15,7 +15,7 @@ use Rattle.grammar.specs.Nodes.{Rec, rec}
 use Rattle.grammar.specs.Reading.{choose}
 use Rattle.descent.proofs.Places.{wrong}
 use Rattle.descent.proofs.Walk.{Walked, done, stop, spent, bind, onto, over, missing, deeper, opening}
-use Rattle.descent.proofs.Fill.{put, fill}
+use Rattle.descent.proofs.Fill.{put, fill, Filled}
 use Rattle.grammar.specs.Sizes.{WIDTH}
 use Rattle.descent.proofs.Filling.{nothing}
 use Rattle.descent.proofs.Filling as filling
@@ -157,12 +157,30 @@ unfolding absences
 one_more zero = refl
 one_more (suc k) = ap absences (let e : suc k + 1 ≡ suc (k + 1) = omega arith in e) ∙ ap (λ z. missing ∷ z) (one_more k)
 
-pub absent_none : {t : Table} → Fills t t (absences 0)
-unfolding absences
-absent_none = none_came
+pub filled_as : {N N' : List ℕ} {m k : ℕ} {rs qs : List Rec} → rs ≡ qs → Filled N N' m k rs → Filled N N' m k qs
+filled_as {N} {N'} {m} {k} e f = subst (λ z. Filled N N' m k z) e f
 
-pub absent_more : {t u v : Table} (k : ℕ) → Fills t u (absences k) → Fills u v (one 0 0 0 1) → Fills t v (absences (k + 1))
-absent_more k f g = fills_as (sym (one_more k)) (f then g)
+pub absent_more : {N N₁ N₂ : List ℕ} {made m m' : ℕ} (k : ℕ) → Filled N N₁ made m (absences k) → Filled N₁ N₂ m m' (one 0 0 0 1) → Filled N N₂ made m' (absences (k + 1))
+absent_more k f g = filled_as (sym (one_more k)) (filling.◌then◌ f g)
+
+length_absences : (n : ℕ) → length (absences n) ≡ n
+unfolding absences
+length_absences zero = refl
+length_absences (suc n) = let i = length_absences n in omega (arith, i)
+
+pub absent_all : {N N' : List ℕ} {made i : ℕ} (n : ℕ) → Filled N N' made i (absences (i - made)) → i ≡ made + n → Filled N N' made (made + n) (absences n)
+absent_all {N} {N'} {made} {i} n f e = subst (λ z. Filled N N' made z (absences n)) e (filled_as (ap absences (less e)) f)
+  where
+    less : i ≡ made + n → i - made ≡ n
+    less e = omega (arith, e)
+
+pub absent_one : {t u : Table} (n : ℕ) → n ≡ 1 → Fills t u (one 0 0 0 1) → Fills t u (absences n)
+unfolding absences
+absent_one n e f = fills_as (sym (ap absences e)) f
+
+-- where there is no room for them nothing is told of the table
+pub absent_cut : {N N' : List ℕ} (made n : ℕ) → ((made + n) * 4 ≤ length N → ⊥) → Filled N N' made (made + n) (absences n)
+absent_cut made n h = record { counted = let l = length_absences n in omega (arith, l); stand = λ z. absurd (h z) }
 
 -- ── with enough fuel ──
 infixr 6 ◌also◌

@@ -2,6 +2,7 @@
 // for them: the first walk is lent an empty one.
 ghost use Rattle.std.specs.Prelude.{◌≡◌, ℕ, List, ◌+◌, ◌*◌, ◌<◌, ◌≤◌, length};
 ghost use Rattle.grammar.specs.Sizes.{WIDTH};
+ghost use Rattle.descent.proofs.Fill.{Filled};
 ghost use Rattle.reader.specs.Laying.{Fills, Swaps, one, absences};
 ghost use Rattle.reader.specs.Turning.{Turned};
 
@@ -35,9 +36,12 @@ impl Table<'_> {
         requires { self.old.made + n ≤ 65536 }
         ensures { (self.new.made ≡ self.old.made + n) × Fills self.old self.new (absences n) }
     {
-        for _ in 0..n {
+        if n == 1 {
             self.emit(node::ABSENT, 0, 0, 1);
+            return;
         }
+        missing(self.nodes, self.made, n);
+        self.made += n;
     }
 
     // By three reversals, for the library's `rotate_left` costs a call 992 bytes of stack and a long list a tenth of its instructions.
@@ -52,6 +56,23 @@ impl Table<'_> {
             reverse(self.nodes, mid, end);
             reverse(self.nodes, base, end);
         }
+    }
+}
+
+// By a loop of its own: a call of `emit` for each costs the shortest command a twelfth more instructions.
+fn missing(nodes: &mut [u32], made: u32, n: u32)
+    requires { made + n ≤ 65536 }
+    ensures { Filled nodes.old nodes.new made (made + n) (absences n) }
+{
+    for i in made..made + n {
+        let base = i as usize * WIDTH;
+        if base + WIDTH > nodes.len() {
+            break;
+        }
+        nodes[base] = node::ABSENT;
+        nodes[base + 1] = 0;
+        nodes[base + 2] = 0;
+        nodes[base + 3] = 1;
     }
 }
 
