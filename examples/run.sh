@@ -12,8 +12,8 @@ numbers() { sed -n "s/.*pub const \([A-Z_]*\): u32 = \([0-9]*\);.*/\1 \2/p" "$1"
 header() { grep -o 'CJARVINT_[A-Z_]* = [0-9]*' include/cjarvint.h | sed 's/CJARVINT_\(.*\) = /\1 /'; }
 diff <(numbers crates/kinds/src/lib.rt | grep -v '^KINDS ') <(header | grep -v '^NODE_' | sed '1,/^SHORT_OUTPUT/d') ||
     { echo "error: the kinds of include/cjarvint.h are not those of crates/kinds" >&2; exit 1; }
-diff <(sed '/^\/\/ Details/,$d' crates/writer/src/node.rt | numbers /dev/stdin) <(header | sed -n 's/^NODE_//p') ||
-    { echo "error: the codes of include/cjarvint.h are not those of crates/writer" >&2; exit 1; }
+diff <(sed '/^\/\/ Details/,$d' crates/kinds/src/node.rt | numbers /dev/stdin) <(header | sed -n 's/^NODE_//p') ||
+    { echo "error: the codes of include/cjarvint.h are not those of crates/kinds" >&2; exit 1; }
 
 if [ "$(uname -m)" != x86_64 ] || ! command -v "$cc" >/dev/null; then
     echo "examples: not run: they need an x86-64 machine and a C compiler ($cc)"
