@@ -1,9 +1,7 @@
 -- Records turned round where they stand. turned_on: a turn of the loop of `reverse`. turned_whole: its end. rotated: three reversals bring
 -- the second records before the first. Assumes nothing.
 use mathlib.Core.List.{List, [], ◌∷◌, ◌++◌, append_assoc, reverse, reverse-cons, reverse-append, reverse-reverse}
-use mathlib.Core.Path.{◌≡◌, refl, sym, ap, ap₂, ◌∙◌}
-use Rattle.std.specs.List.{swap}
-use Rattle.std.proofs.lemmas.Grind.{get_or_default_zero}
+use mathlib.Core.Path.{◌≡◌, refl, sym, ap, ◌∙◌}
 use Prim.Native.Nat.{ℕ, ◌+◌, ◌*◌, ◌<◌, ◌≤◌, ◌-◌, min}
 use lib.ListN.{length, set, get_or, length-set, length-append, length-reverse, take, drop, take-append-drop, length-take, length-drop, get_or-append}
 use lib.Seq.{get_or-append-add, set-append_left}
@@ -15,11 +13,6 @@ use Rattle.descent.proofs.Filling.{numbers_on, length_numbers, set_on, fill_at, 
 use Rattle.reader.specs.Turning.{swapped_at, Turned}
 
 -- ── one exchange ──
-pub swapped : (N M : List ℕ) (a b : ℕ) → a < length N → b < length N → M ≡ swap N a b → M ≡ swapped_at N a b
-unfolding swapped_at
-swapped [] M a b h k e = absurd (omega arith)
-swapped (x ∷ xs) M a b h k e = e ∙ ap₂ (λ (y z : ℕ). set (set (x ∷ xs) a y) b z) (get_or_default_zero (x ∷ xs) b x k) (get_or_default_zero (x ∷ xs) a x h)
-
 -- the numbers numbered i of P and of Q
 swap_at : (hs P ms Q : List ℕ) (i a b : ℕ) → i < length P → a ≡ length hs + i → b ≡ length hs + (length P + (length ms + i)) → swapped_at (hs ++ (P ++ (ms ++ Q))) a b ≡ hs ++ (set P i (get_or Q i 0) ++ (ms ++ set Q i (get_or P i 0)))
 unfolding swapped_at

@@ -4,7 +4,7 @@ ghost use Rattle.std.specs.Prelude.{◌≡◌, ℕ, List, ◌+◌, ◌*◌, ◌<
 ghost use Rattle.grammar.specs.Sizes.{WIDTH};
 ghost use Rattle.descent.proofs.Fill.{Filled};
 ghost use Rattle.reader.specs.Laying.{Fills, Swaps, one, absences};
-ghost use Rattle.reader.specs.Turning.{Turned};
+ghost use Rattle.reader.specs.Turning.{swapped_at, Turned};
 
 use crate::WIDTH;
 use kinds::node;
@@ -85,10 +85,20 @@ fn reverse(nodes: &mut [u32], from: u32, to: u32)
     let mut b = to as usize * WIDTH;
     while a + WIDTH < b {
         b -= WIDTH;
-        nodes.swap(a, b);
-        nodes.swap(a + 1, b + 1);
-        nodes.swap(a + 2, b + 2);
-        nodes.swap(a + 3, b + 3);
+        swap(nodes, a, b);
+        swap(nodes, a + 1, b + 1);
+        swap(nodes, a + 2, b + 2);
+        swap(nodes, a + 3, b + 3);
         a += WIDTH;
     }
+}
+
+// By hand: the library's `swap` costs the worst command a sixth more instructions.
+fn swap(nodes: &mut [u32], a: usize, b: usize)
+    requires { (a < length nodes.old) × (b < length nodes.old) }
+    ensures { nodes.new ≡ swapped_at nodes.old a b }
+{
+    let x = nodes[a];
+    nodes[a] = nodes[b];
+    nodes[b] = x;
 }
