@@ -192,6 +192,7 @@ impl<P: Print, E: Print> io::Write for Asker<'_, P, E> {
     }
 }
 
+// By hand, where a derive would ask it of P and E too.
 impl<P: Print, E: Print> Drop for Asker<'_, P, E> {
     fn drop(self) {
         let Asker {

@@ -1,7 +1,7 @@
 // Names of kinds, join words and operators.
 use kinds::node;
 
-// Kinds, as document 01 has them, from 0 on. A table, not a `match`: one of 72 arms is past the check's limit.
+// Kinds, as document 01 has them, from 0 on. A table, not a `match`, which would have 72 arms with no more in them.
 static KINDS: [&str; 72] = [
     "no kind", "ID", "KWID", "STRING", "INDEXED", "JOIN_KW", "INTEGER", "FLOAT", "BLOB",
     "VARIABLE", "CTIME_KW", "NULL", "LP", "RP", "COMMA", "DOT", "SEMI", "STAR", "PLUS", "MINUS",

@@ -23,7 +23,8 @@ pub fn mixed(digest: u64, n: u64) -> u64
     (digest % MODULUS * FACTOR + n % MODULUS) % MODULUS
 }
 
-// `count`, or the length of the list where it is shorter: `&list[..n]` may then be lent.
+// `count`, or the length of the list where it is shorter: `&list[..n]` may then be lent. A count, not the part itself, which
+// shared and mutable lists would need a function each for.
 pub fn within(count: usize, list: &[u32]) -> usize
     ensures value { result ≡ min count (length list.now) }
     ensures prefix_len { IsPrefixLen result list.now }

@@ -85,7 +85,7 @@ impl<'a, P: Print> fmt::Write for Output<'a, P> {
     }
 }
 
-// What waits then is not written: that is for `flush`.
+// What waits then is not written: that is for `flush`. By hand, where a derive would ask it of P too.
 impl<'a, P: Print> Drop for Output<'a, P> {
     fn drop(self) {
         let Output {
