@@ -82,7 +82,7 @@ enum {
 #define CJARVINT_TABLE(tokens) (32 * ((tokens) + 1))
 /* Tokens of a writing from so many records, at most. The usual is about as many as the command has; refusal 10 says how many. */
 #define CJARVINT_WRITING(records) (12 * (records))
-/* Bytes of stack that a call takes at worst, on x86-64. Measured (bench/firmware.sh), not proved: cjarvint_write 14,984, cjarvint_read 14,600;
+/* Bytes of stack that a call takes at worst, on x86-64. Measured (bench/firmware.sh), not proved: cjarvint_write 11,448, cjarvint_read 11,336;
  * an earlier compiler took 16,320, which is kept as the bound. */
 #define CJARVINT_STACK 16320
 
