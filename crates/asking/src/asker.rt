@@ -100,7 +100,9 @@ impl<'a, P: Print, E: Print> Asker<'a, P, E> {
             Voice::Numbers => {
                 self.out.flush();
                 let _ = self.errors.println(misread);
-                let _ = writeln!(self.out, "? at {}", misread.column);
+                self.out.bytes(b"? at ");
+                self.out.number(misread.column);
+                self.out.byte(b'\n');
             }
         }
     }
@@ -131,12 +133,7 @@ impl<'a, P: Print, E: Print> Asker<'a, P, E> {
 
     // The answer to a line of the first form, with the records and the writing of an acceptance.
     fn write_full(&mut self, reading: Reading) -> fmt::Result {
-        write!(
-            self.out,
-            "{} {}",
-            reading::number(reading.got),
-            reading::place(reading.got)
-        )?;
+        writing::tell_answer(&mut self.out, reading.got);
         if reading.got.is_err() {
             return writeln!(self.out);
         }
@@ -144,19 +141,20 @@ impl<'a, P: Print, E: Print> Asker<'a, P, E> {
         let used = report::within(reading.used, &self.nodes);
         let (records, _) = self.nodes[..used].as_chunks::<WIDTH>();
         for [code, detail, children, size] in records {
-            write!(self.out, " {code},{detail},{children},{size}")?;
+            self.out.byte(b' ');
+            self.out.number(u64::from(*code));
+            for number in [detail, children, size] {
+                self.out.byte(b',');
+                self.out.number(u64::from(*number));
+            }
         }
         writing::tell(&mut self.out, &self.command, &mut self.nodes, Form::Full)
     }
 
     // To one of the second form.
     fn write_short(&mut self, reading: Reading) -> fmt::Result {
-        write!(
-            self.out,
-            "R {} {}",
-            reading::number(reading.got),
-            reading::place(reading.got)
-        )?;
+        self.out.bytes(b"R ");
+        writing::tell_answer(&mut self.out, reading.got);
         writing::tell(&mut self.out, &self.command, &mut self.nodes, Form::Short)
     }
 

@@ -27,7 +27,7 @@ The exit status is always 0: the answers say which lines were refused.
 ";
 
 pub fn tell(out: &impl Print) {
-    let _ = out.print(TEXT);
+    let _ = out.write_all(TEXT.as_bytes());
 }
 
 // An argument that is none of ours.

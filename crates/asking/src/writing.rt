@@ -4,7 +4,9 @@ use crate::refusals::Missing;
 use kinds::{COMMA, DOT, ID, INDEXED, JOIN_KW, LIKE_KW, LP, RP};
 use lines::Command;
 use reader::{Reason, Refusal};
+use report::Output;
 use std::fmt;
+use std::fmt::Write;
 
 // The forms of an answer: in numbers after the records, or after those of the reader, or in words.
 #[derive(Clone, Copy, PartialEq, Eq, Debug)]
@@ -14,21 +16,19 @@ pub enum Form {
     Words,
 }
 
-// A token in numbers.
-#[derive(Clone, Copy)]
-struct Numbers {
-    kind: u32,
-    text: u32,
+// 01's number of an answer, and its place.
+pub fn tell_answer<P: Print>(out: &mut Output<'_, P>, got: Result<usize, Refusal>) {
+    out.number(u64::from(reading::number(got)));
+    out.byte(b' ');
+    out.number(reading::place(got) as u64);
 }
 
-impl fmt::Display for Numbers {
-    fn fmt<W: fmt::Write>(&self, f: &mut fmt::Formatter<W>) -> fmt::Result {
-        let Numbers { kind, text } = *self;
-        if text == 0 {
-            write!(f, "{kind}")
-        } else {
-            write!(f, "{kind}.{text}")
-        }
+// A token in numbers.
+fn tell_token<P: Print>(out: &mut Output<'_, P>, kind: u32, text: u32) {
+    out.number(u64::from(kind));
+    if text > 0 {
+        out.byte(b'.');
+        out.number(u64::from(text));
     }
 }
 
@@ -78,8 +78,8 @@ fn none<W: fmt::Write>(out: &mut W, refusal: Refusal) -> fmt::Result {
 }
 
 // The writer's answer to the command, in one of the forms; the table holds the reading, or is clear.
-pub fn tell<W: fmt::Write>(
-    out: &mut W,
+pub fn tell<P: Print>(
+    out: &mut Output<'_, P>,
     command: &Command,
     nodes: &mut [u32],
     form: Form,
@@ -104,16 +104,15 @@ pub fn tell<W: fmt::Write>(
         return writeln!(out, " ! output changed beyond the writing");
     }
     match form {
-        Form::Short => write!(
-            out,
-            " W {} {}",
-            reading::number(w.got),
-            reading::place(w.got)
-        )?,
+        Form::Short => {
+            out.bytes(b" W ");
+            tell_answer(out, w.got);
+        }
         Form::Full => {
-            write!(out, " :")?;
+            out.bytes(b" :");
             for (kind, text) in tokens {
-                write!(out, " {}", Numbers { kind, text })?;
+                out.byte(b' ');
+                tell_token(out, kind, text);
             }
         }
         Form::Words => match w.got {

@@ -23,7 +23,6 @@ use Rattle.reader.specs.declared.table.Table.{Table}
 use Rattle.reader.specs.declared.Step.{Step}
 use Rattle.reader.specs.declared.Step.TheVariants as step
 use Rattle.reader.proofs.Laying.{laid_in, stopped_in}
-use Rattle.reader.proofs.Steps.{got_in}
 
 -- the records of a walk that is done
 records_in : Walked → List Rec
@@ -77,10 +76,21 @@ module _ {K T N : List ℕ} (lent : Lent K T) (fit : AllFit (tokens K T)) {u u' 
         let t : v'.nodes.now ≡ fill N 0 x.0 = b.1 ∙ ap (λ (l : List ℕ). fill l 0 x.0) i in
         (b.0, subst (λ (m : ℕ). Reads K T N 0 m v'.nodes.now) k (subst⁻¹ (λ (l : List ℕ). Reads K T N 0 (length x.0) l) t (walked K T N lent fit f x.1 room)))
 
--- what a walk from the first token is within
-module _ {lists : Lists} {made made' : ℕ} {r : Step} (z : made ≡ 0) (w : Within 1 4 lists 0 made made' r) where
-  pub few_refused : {m : Reason} {p : ℕ} → r ≡ step.Refused m p → Few (kinds_of lists) p
-  few_refused {p = p} e = let h : p ≤ length (kinds_of lists) = subst (λ (s : Step). WithinAt 1 4 lists 0 made made' s) e w.holds in omega (arith, h)
+-- what a walk of a list's tokens, from the first one on, is within: any list, whatever is lent
+abbrev pub WithinFirstAt : List ℕ → ℕ → Step → Type 0
+WithinFirstAt K made (step.Got said count at) = (at ≤ length K) × (made ≤ 8 * at + 4)
+WithinFirstAt K made (step.Refused m p) = p ≤ length K
 
-  pub few_got : {s n d p : ℕ} → r ≡ step.Got s n d → p ≡ made' → Few (kinds_of lists) p
-  few_got {d = d} e i = let b = got_in w e in let h : d ≤ length (kinds_of lists) = b.inside in let k = b.room in omega (arith, h, k, i, z)
+pub record WithinFirst (K : List ℕ) (made : ℕ) (r : Step) : Type 0 where
+  pub holds : WithinFirstAt K made r
+
+pub within_first : {lists : Lists} {made made' : ℕ} {r : Step} → made ≡ 0 → Within 1 4 lists 0 made made' r → WithinFirst (kinds_of lists) made' r
+within_first {r = step.Got s n d} z w = record { holds = (w.holds.inside, omega (arith, w.holds.room, z)) }
+within_first {r = step.Refused m p} z w = record { holds = w.holds }
+
+module _ {K : List ℕ} {made : ℕ} {r : Step} (w : WithinFirst K made r) where
+  pub few_refused : {m : Reason} {p : ℕ} → r ≡ step.Refused m p → Few K p
+  few_refused {p = p} e = let h : p ≤ length K = subst (λ (s : Step). WithinFirstAt K made s) e w.holds in omega (arith, h)
+
+  pub few_got : {s n d p : ℕ} → r ≡ step.Got s n d → p ≡ made → Few K p
+  few_got {s} {n} {d} e i = let h : WithinFirstAt K made (step.Got s n d) = subst (λ (s : Step). WithinFirstAt K made s) e w.holds in omega (arith, h.0, h.1, i)

@@ -1,7 +1,8 @@
--- Numbers tell reasons apart. Assumes nothing.
+-- Numbers tell reasons apart, and none is 0, which is for acceptance. Assumes nothing.
 use mathlib.Core.Path.{◌≡◌, refl, sym, ap, ◌∙◌}
 use mathlib.Core.Bool.{cond}
-use Prim.Native.Nat.{ℕ}
+use Prim.Native.Nat.{ℕ, ◌<◌}
+use native.Mathlib.Omega.{arith}
 use lib.Dec.{eqb}
 use Rattle.reader.specs.Refusals.{number_of}
 use Rattle.reader.specs.declared.refusal.Reason.{Reason}
@@ -25,3 +26,15 @@ told reason.OutputShort = refl
 
 pub same_reason : (v w : Reason) → number_of v ≡ number_of w → v ≡ w
 same_reason v w e = sym (told v) ∙ ap reason_of e ∙ told w
+
+pub counted : (w : Reason) → 0 < number_of w
+counted reason.Lengths = omega arith
+counted reason.Unfit = omega arith
+counted reason.CannotFollow = omega arith
+counted reason.Unfinished = omega arith
+counted reason.TooDeep = omega arith
+counted reason.TooManyQueries = omega arith
+counted reason.JoinFlags = omega arith
+counted reason.RowLength = omega arith
+counted reason.TableShort = omega arith
+counted reason.OutputShort = omega arith

@@ -21,6 +21,14 @@ abbrev pub used_by : Answer → List ℕ → ℕ
 used_by (Ok count) N = numbers_of N count
 used_by (Err r) N = 0
 
+-- what a reading tells of number m at place p, when the first n numbers of the table N are records
+pub record Told (m p n : ℕ) (N : List ℕ) (r : Reading) : Type 0 where
+  pub numbered : number r.got ≡ m
+  pub placed : place r.got ≡ p
+  pub used : r.used ≡ n
+  -- the first number beyond that is not clear, or that there is none
+  pub changed : Changed N n r.changed
+
 -- what a reading tells of an answer and of the table N that it left
 pub record Left (got : Answer) (N : List ℕ) (r : Reading) : Type 0 where
   pub told : r.got ≡ got

@@ -12,6 +12,18 @@ abbrev pub written_by : Answer → ℕ
 written_by (Ok count) = count
 written_by (Err r) = 0
 
+-- what a writing tells of number m at place p, when the first n numbers of A and B are the writing
+pub record Tells (m p n : ℕ) (A B : List ℕ) (w : Writing) : Type 0 where
+  pub numbered : number w.got ≡ m
+  pub placed : place w.got ≡ p
+  pub used : w.used ≡ n
+  -- the first numbers beyond that are not clear, and whether there is none
+  pub changed_kind : Option ℕ
+  pub changed_text : Option ℕ
+  pub kinds : Changed A n changed_kind
+  pub texts : Changed B n changed_text
+  pub kept : w.kept ≡ (is_none changed_kind && is_none changed_text)
+
 -- what a writing tells of an answer and of the lists A and B that it left
 pub record LeftIn (got : Answer) (A B : List ℕ) (w : Writing) : Type 0 where
   pub told : w.got ≡ got

@@ -2,3 +2,4 @@ pub mod TableSteps
 pub mod DigestSteps
 pub mod BlockSteps
 pub mod OneShowing
+pub mod Written

@@ -32,18 +32,16 @@ impl Command {
         }
     }
 
-    // Of these kinds; the words are those of its JOIN_KWs.
-    fn of(kinds: &[u32], words: &[u32]) -> Command {
-        let mut command = Command::new();
+    // Tokens of these kinds; the words are those of the JOIN_KWs.
+    fn push_all(&mut self, kinds: &[u32], words: &[u32]) {
         let mut words = words.iter();
         for kind in kinds {
             if *kind != JOIN_KW {
-                command.push(*kind);
+                self.push(*kind);
             } else if let Some(word) = words.next() {
-                command.put(JOIN_KW, *word);
+                self.put(JOIN_KW, *word);
             }
         }
-        command
     }
 
     // One more token, with its text number.
@@ -62,39 +60,35 @@ impl Command {
     fn put(&mut self, kind: u32, text: u32) {
         let at = self.count;
         if at < PLACES {
-            self.kinds[at] = kind;
-            self.texts[at] = text;
+            reading::put(&mut self.kinds, at, kind);
+            reading::put(&mut self.texts, at, text);
             self.count = at + 1;
         }
     }
 
     // SELECT, then 1 in so many pairs of parentheses.
-    fn in_parentheses(pairs: usize) -> Command {
-        let mut command = Command::new();
-        command.push(SELECT);
+    fn push_parentheses(&mut self, pairs: usize) {
+        self.push(SELECT);
         for _ in 0..pairs {
-            command.push(LP);
+            self.push(LP);
         }
-        command.push(INTEGER);
+        self.push(INTEGER);
         for _ in 0..pairs {
-            command.push(RP);
+            self.push(RP);
         }
-        command
     }
 
     // So many SELECTs and one more, each in the last's column.
-    fn in_columns(outer: usize) -> Command {
-        let mut command = Command::new();
+    fn push_columns(&mut self, outer: usize) {
         for _ in 0..outer {
-            command.push(SELECT);
-            command.push(LP);
+            self.push(SELECT);
+            self.push(LP);
         }
-        command.push(SELECT);
-        command.push(INTEGER);
+        self.push(SELECT);
+        self.push(INTEGER);
         for _ in 0..outer {
-            command.push(RP);
+            self.push(RP);
         }
-        command
     }
 
     // Its line: the reader and the writer with a node table each.
@@ -198,15 +192,35 @@ const LAST: [Sample; 2] = [
     ),
 ];
 
+// A command is made where it is shown, and filled there: it is 32 KiB, which would else be moved.
+fn show_sample(out: &impl Print, sample: Sample) -> Result<()> {
+    let (name, kinds, words) = sample;
+    let mut command = Command::new();
+    command.push_all(kinds, words);
+    command.show(out, name)
+}
+
+fn show_parentheses(out: &impl Print, name: &str, pairs: usize) -> Result<()> {
+    let mut command = Command::new();
+    command.push_parentheses(pairs);
+    command.show(out, name)
+}
+
+fn show_columns(out: &impl Print, name: &str, outer: usize) -> Result<()> {
+    let mut command = Command::new();
+    command.push_columns(outer);
+    command.show(out, name)
+}
+
 fn main(rt: HostRuntime) -> Result<()> {
-    for (name, kinds, words) in FIRST {
-        Command::of(kinds, words).show(&rt, name)?;
+    for sample in FIRST {
+        show_sample(&rt, sample)?;
     }
-    Command::in_parentheses(63).show(&rt, "K10 63")?;
-    Command::in_parentheses(64).show(&rt, "K10 64")?;
-    Command::in_columns(16).show(&rt, "K11")?;
-    for (name, kinds, words) in LAST {
-        Command::of(kinds, words).show(&rt, name)?;
+    show_parentheses(&rt, "K10 63", 63)?;
+    show_parentheses(&rt, "K10 64", 64)?;
+    show_columns(&rt, "K11", 16)?;
+    for sample in LAST {
+        show_sample(&rt, sample)?;
     }
     Ok(())
 }

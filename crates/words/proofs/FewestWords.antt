@@ -10,12 +10,12 @@ use borrow.Author.Tests.{lt-ltb, eqb-true, eqb-false, not-true}
 use Rattle.words.specs.Words.{words}
 use Rattle.words.specs.Flags.{flags_of}
 use Rattle.words.specs.Sequences.{united_all, legal_sequence, sequences_of, sequences}
-use Rattle.words.specs.Fewest.{endings, ending_of, fewest_of, words_of}
+use Rattle.words.specs.Fewest.{endings, ending_of, fewest_of, writing_of, words_in}
 use Rattle.words.proofs.Every.{left, right, asked, every, each}
 
--- the words written for these flags
+-- the words that the code writes for these flags
 abbrev pub written : ℕ → List ℕ
-written f = words_of (fewest_of f)
+written f = words_in (writing_of (fewest_of f))
 
 -- the sequences of none, one or two words: no words written are more than two
 pub shorter : List (List ℕ)

@@ -1,5 +1,5 @@
 -- The fewest words that have given flags.
-use Rattle.std.specs.Prelude.{cond, Option, None, Some, List, [], ◌∷◌, ◌++◌, ℕ, ◌-◌, eqb}
+use Rattle.std.specs.Prelude.{cond, Option, None, Some, option_to_list, List, [], ◌∷◌, ◌++◌, ℕ, ◌-◌, eqb}
 use Rattle.words.specs.Words.{CROSS, FULL, INNER, LEFT, NATURAL, RIGHT, NO_WORD}
 use Rattle.words.specs.Flags.{NATURAL_BIT, NO_FLAGS, flags_of, has}
 use Rattle.words.specs.declared.Writing.{Writing}
@@ -48,3 +48,7 @@ word_there w = cond (eqb w NO_WORD) None (Some w)
 
 abbrev pub writing_of : Fewest → Writing
 writing_of w = record { first = word_there w.first; second = word_there w.second }
+
+-- the words that stand in what the code writes
+abbrev pub words_in : Writing → List ℕ
+words_in w = option_to_list w.first ++ option_to_list w.second
