@@ -122,7 +122,10 @@ impl<'a, P: Print, E: Print> Asker<'a, P, E> {
 
     fn write_answer(&mut self, reading: Reading) -> fmt::Result {
         if let Some(place) = reading.changed {
-            return writeln!(self.out, "! table changed at {place}");
+            self.out.bytes(b"! table changed at ");
+            self.out.number(place as u64);
+            self.out.byte(b'\n');
+            return Ok(());
         }
         match self.voice {
             Voice::Words => self.write_words(reading),

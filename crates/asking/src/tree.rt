@@ -81,7 +81,7 @@ impl Tree<'_> {
 #[derive(Clone, Copy)]
 struct Indent(u32);
 
-// Two for each level: written one by one, those of deep trees took half of the time.
+// Two for each level: written one by one, those of deep trees took over a third of the time.
 const BLANKS: &str =
     "                                                                                                                                ";
 

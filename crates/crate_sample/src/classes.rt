@@ -1,5 +1,5 @@
 // The classes of docs/DIFFERENCES.md.
-use std::fmt;
+use report::Output;
 
 const CLASSES: usize = 29;
 
@@ -25,13 +25,14 @@ impl Classes {
         *count = count.wrapping_add(1);
         Some(())
     }
-}
 
-impl fmt::Display for Classes {
-    fn fmt<W: fmt::Write>(&self, f: &mut fmt::Formatter<W>) -> fmt::Result {
+    // A line for each.
+    pub fn tell<P: Print>(&self, out: &mut Output<'_, P>) {
         for (letter, count) in LETTERS.iter().zip(self.counts.iter()) {
-            writeln!(f, "{} {count}", char::from(*letter))?;
+            out.byte(*letter);
+            out.byte(b' ');
+            out.number(*count);
+            out.byte(b'\n');
         }
-        Ok(())
     }
 }

@@ -4,7 +4,6 @@ use crate::classes::Classes;
 use crate::part::{Mark, Part};
 use lines::Command;
 use report::{Output, mixed};
-use std::fmt::Write;
 use std::io;
 
 // Where words go; the line that is being taken; a node table, clear between lines; and what the lines so far gave.
@@ -111,8 +110,13 @@ impl<'a, P: Print> Sample<'a, P> {
         let is_kept = reading.changed.is_none();
         if !(is_kept && !self.mark.is_wrong && self.part.is_right(self.mark)) {
             self.wrong = self.wrong.wrapping_add(1);
-            let line = self.lines;
-            let _ = writeln!(self.out, "wrong: line {line}: {number} {place}");
+            self.out.bytes(b"wrong: line ");
+            self.out.number(self.lines);
+            self.out.bytes(b": ");
+            self.out.number(u64::from(number));
+            self.out.byte(b' ');
+            self.out.number(place as u64);
+            self.out.byte(b'\n');
         }
     }
 
@@ -121,19 +125,16 @@ impl<'a, P: Print> Sample<'a, P> {
         if !matches!(self.part, Part::Mark) {
             self.end();
         }
-        let Sample {
-            lines,
-            wrong,
-            same,
-            digest,
-            classes,
-            ..
-        } = self;
-        let _ = writeln!(
-            self.out,
-            "lines {lines}, wrong {wrong}, same {same}, digest {digest}"
-        );
-        let _ = write!(self.out, "{classes}");
+        self.out.bytes(b"lines ");
+        self.out.number(self.lines);
+        self.out.bytes(b", wrong ");
+        self.out.number(self.wrong);
+        self.out.bytes(b", same ");
+        self.out.number(self.same);
+        self.out.bytes(b", digest ");
+        self.out.number(self.digest);
+        self.out.byte(b'\n');
+        self.classes.tell(&mut self.out);
     }
 
     pub fn flush(&mut self) {

@@ -1,6 +1,5 @@
 // What the lines of a file gave.
-use report::mixed;
-use std::fmt;
+use report::{Output, mixed};
 
 // Of the reader or the writer: how many answers count, how many were wrong, and a digest of all.
 #[derive(Clone, Copy, PartialEq, Eq, Debug, Default)]
@@ -27,15 +26,12 @@ impl Counts {
     pub fn mix_list(&mut self, list: &[u32], count: usize) {
         self.digest = report::digest(self.digest, list, count);
     }
-}
 
-impl fmt::Display for Counts {
-    fn fmt<W: fmt::Write>(&self, f: &mut fmt::Formatter<W>) -> fmt::Result {
-        let Counts {
-            answers,
-            wrong,
-            digest,
-        } = *self;
-        write!(f, "{answers}, wrong {wrong}, digest {digest}")
+    pub fn tell<P: Print>(&self, out: &mut Output<'_, P>) {
+        out.number(self.answers);
+        out.bytes(b", wrong ");
+        out.number(self.wrong);
+        out.bytes(b", digest ");
+        out.number(self.digest);
     }
 }

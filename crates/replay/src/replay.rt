@@ -6,7 +6,6 @@ use lines::{Command, Line};
 use reader::Reason;
 use reading::{Reading, Writing};
 use report::Output;
-use std::fmt::Write;
 use std::io;
 
 // Where words go; the line that is being taken: its command, its answer once that is whole, and the writing that it
@@ -87,7 +86,14 @@ impl<'a, P: Print> Replay<'a, P> {
 
     fn complain(&mut self, what: &str, number: u32, place: usize) {
         let line = self.reader.answers;
-        let _ = writeln!(self.out, "{what}: line {line}: {number} {place}");
+        self.out.bytes(what.as_bytes());
+        self.out.bytes(b": line ");
+        self.out.number(line);
+        self.out.bytes(b": ");
+        self.out.number(u64::from(number));
+        self.out.byte(b' ');
+        self.out.number(place as u64);
+        self.out.byte(b'\n');
     }
 
     fn judge_reading(&mut self, answer: &Answer) {
@@ -164,8 +170,12 @@ impl<'a, P: Print> Replay<'a, P> {
         if self.command.line().column > 0 {
             self.end();
         }
-        let Replay { reader, writer, .. } = self;
-        let _ = writeln!(self.out, "{path}: lines {reader}; written {writer}");
+        self.out.bytes(path.as_bytes());
+        self.out.bytes(b": lines ");
+        self.reader.tell(&mut self.out);
+        self.out.bytes(b"; written ");
+        self.writer.tell(&mut self.out);
+        self.out.byte(b'\n');
         self.begin();
         self.reader = Counts::default();
         self.writer = Counts::default();

@@ -1,21 +1,33 @@
 -- For each legal sequence of one to three join words the words written have the same flags, and no sequence of fewer words has them.
 -- Assumes nothing.
-use mathlib.Core.Path.{◌≡◌, refl}
-use mathlib.Core.Bool.{Bool, true, ◌&&◌, ◌||◌, not}
+use Rattle.std.specs.Prelude.{option_to_list}
+use mathlib.Core.Path.{◌≡◌, refl, ap₂}
+use mathlib.Core.Bool.{Bool, true, false, ◌&&◌, ◌||◌, not}
 use mathlib.Core.List.{List, ◌++◌, Memᴰ}
 use Prim.Native.Nat.{ℕ, ◌<◌}
 use lib.Dec.{eqb, ltb}
 use lib.ListN.{length}
 use borrow.Author.Tests.{lt-ltb, eqb-true, eqb-false, not-true}
-use Rattle.words.specs.Words.{words}
+use Rattle.words.specs.Words.{words, NO_WORD}
 use Rattle.words.specs.Flags.{flags_of}
 use Rattle.words.specs.Sequences.{united_all, legal_sequence, sequences_of, sequences}
-use Rattle.words.specs.Fewest.{endings, ending_of, fewest_of, writing_of, words_in}
+use Rattle.words.specs.Fewest.{Fewest, endings, ending_of, fewest_of, present, words_of, word_there, writing_of, words_in}
 use Rattle.words.proofs.Every.{left, right, asked, every, each}
 
--- the words that the code writes for these flags
+-- the words written for these flags
 abbrev pub written : ℕ → List ℕ
-written f = words_in (writing_of (fewest_of f))
+written f = words_of (fewest_of f)
+
+-- and by the code, None in place of NO_WORD, the same
+by_bool : {P : Type 0} (b : Bool) → (b ≡ true → P) → (b ≡ false → P) → P
+by_bool true t f = t refl
+by_bool false t f = f refl
+
+there_is : (w : ℕ) → option_to_list (word_there w) ≡ present w
+there_is w = by_bool (eqb w NO_WORD) (λ e. rw e refl) (λ e. rw e refl)
+
+pub words_in_is : (w : Fewest) → words_in (writing_of w) ≡ words_of w
+words_in_is w = ap₂ (λ (x y : List ℕ). x ++ y) (there_is w.first) (there_is w.second)
 
 -- the sequences of none, one or two words: no words written are more than two
 pub shorter : List (List ℕ)
