@@ -81,9 +81,11 @@ impl Tree<'_> {
 #[derive(Clone, Copy)]
 struct Indent(u32);
 
-// Two for each level: written one by one, those of deep trees took over a third of the time.
+// Two for each level, up to DEEP: written one by one, those of deep trees took over a third of the time.
 const BLANKS: &str =
     "                                                                                                                                ";
+
+const _: () = prove!(BLANKS.len() == 2 * DEEP as usize);
 
 impl fmt::Display for Indent {
     fn fmt<W: fmt::Write>(&self, f: &mut fmt::Formatter<W>) -> fmt::Result {

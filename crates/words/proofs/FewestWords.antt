@@ -1,8 +1,10 @@
 -- For each legal sequence of one to three join words the words written have the same flags, and no sequence of fewer words has them.
 -- Assumes nothing.
 use Rattle.std.specs.Prelude.{option_to_list}
+use Rattle.std.proofs.lemmas.Bool.{cases_Bool}
+use mathlib.Core.Logic.{⊎_elim}
 use mathlib.Core.Path.{◌≡◌, refl, ap₂}
-use mathlib.Core.Bool.{Bool, true, false, ◌&&◌, ◌||◌, not}
+use mathlib.Core.Bool.{Bool, true, ◌&&◌, ◌||◌, not}
 use mathlib.Core.List.{List, ◌++◌, Memᴰ}
 use Prim.Native.Nat.{ℕ, ◌<◌}
 use lib.Dec.{eqb, ltb}
@@ -19,12 +21,8 @@ abbrev pub written : ℕ → List ℕ
 written f = words_of (fewest_of f)
 
 -- and by the code, None in place of NO_WORD, the same
-by_bool : {P : Type 0} (b : Bool) → (b ≡ true → P) → (b ≡ false → P) → P
-by_bool true t f = t refl
-by_bool false t f = f refl
-
 there_is : (w : ℕ) → option_to_list (word_there w) ≡ present w
-there_is w = by_bool (eqb w NO_WORD) (λ e. rw e refl) (λ e. rw e refl)
+there_is w = ⊎_elim (λ e. rw e refl) (λ e. rw e refl) (cases_Bool (eqb w NO_WORD))
 
 pub words_in_is : (w : Fewest) → words_in (writing_of w) ≡ words_of w
 words_in_is w = ap₂ (λ (x y : List ℕ). x ++ y) (there_is w.first) (there_is w.second)

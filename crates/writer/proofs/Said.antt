@@ -9,11 +9,12 @@ use native.Mathlib.Omega.{arith}
 use borrow.Author.Tests.{ne_eqb, lt-leb}
 use Rattle.theory.specs.Trees.{Tok}
 use Rattle.theory.specs.Table.{pick, both}
-use Rattle.theory.proofs.Cases.{by_bool, 0≢1, eqb-true, eqb_eq, le-leb}
+use Rattle.theory.proofs.Cases.{0≢1, eqb-true, eqb_eq, le-leb}
 use Rattle.kinds.specs.Kinds.{AS, ID, STRING, INDEXED, JOIN_KW, INTEGER, FLOAT, BLOB, VARIABLE, CTIME_KW, NULL, STAR, DOT, NOT, IS, LIKE_KW, JOIN, NULLS, FIRST, LAST, COLLATE, LP, BY}
 use Rattle.kinds.specs.Strength.{strength_of}
 use Rattle.std.specs.Prelude.{Option, None, Some, option_to_list}
-use Rattle.words.specs.Fewest.{Fewest, fewest_of, present, word_there, writing_of}
+use Rattle.words.specs.Fewest.{Fewest, fewest_of, writing_of, words_in}
+use Rattle.words.proofs.FewestWords.{words_in_is}
 use Rattle.words.specs.declared.Writing.{Writing}
 use Rattle.grammar.specs.NodeNames.{node_absent, node_star, node_name_star, node_column, node_sort, node_null, node_names, node_parens, node_table, node_join, node_null_test}
 use Rattle.grammar.specs.Reading.{choose}
@@ -222,13 +223,10 @@ pub join_some : {w : Option ℕ} {n : ℕ} → w ≡ Some n → worded w ≡ tok
 unfolding join_words
 join_some e = ap worded e
 
-present_is : (w : ℕ) → present w ≡ option_to_list (word_there w)
-present_is w = by_bool (eqb w 0) (λ e. rw e refl) (λ e. rw e refl)
-
 pub join_said : (d : ℕ) → 64 ≤ d → {w : Writing} → w ≡ writing_of (fewest_of (d - 64)) → join_of d ≡ join_words (option_to_list w.first) ++ (join_words (option_to_list w.second) ++ (tok JOIN ∷ []))
 join_said d h {w} e =
     let f : Fewest = fewest_of (d - 64) in
-    join_worded d h ∙ ap₂ (λ x y. join_words (x ++ y) ++ (tok JOIN ∷ [])) (present_is f.first ∙ ap (λ (z : Writing). option_to_list z.first) (sym e)) (present_is f.second ∙ ap (λ (z : Writing). option_to_list z.second) (sym e))
+    join_worded d h ∙ ap (λ x. join_words x ++ (tok JOIN ∷ [])) (sym (words_in_is f) ∙ ap words_in (sym e))
     ∙ ap (λ z. z ++ (tok JOIN ∷ [])) (join_words_on (option_to_list w.first) (option_to_list w.second)) ∙ append_assoc (join_words (option_to_list w.first)) (join_words (option_to_list w.second)) (tok JOIN ∷ [])
 
 no_join : {N : List ℕ} {i : ℕ} (w : Whole a_source N i) → code_at N i ≡ node_join → ⊥
